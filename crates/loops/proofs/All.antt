@@ -1,0 +1,68 @@
+-- A loop that asks a test of 0, 1, .., and stops at the first that fails it: whether `p` holds of every number below n.
+-- In a loop:  all-none, all-more   what has passed so far;  all-stop   the answer where one fails
+-- Of the answer:  all-at, all-of
+-- Assumes nothing.
+use mathlib.Core.Path.{_≡_, refl, sym, _∙_, ap, subst}
+use mathlib.Core.Logic.{⊎-elim}
+use mathlib.Core.Bool.{Bool, true, false, _&&_}
+use Prim.Native.Nat.{ℕ, zero, suc, _+_, _<_, _≤_}
+use native.Mathlib.Nat.{le-of-suc-le-suc, not-suc-le-zero, eq-or-lt-of-le}
+use native.Mathlib.Numerals.{add-one}
+use native.Mathlib.Omega.{arith}
+use Rattle.loops.specs.Loops.{allBelow}
+
+pub and-false : (a : Bool) → a && false ≡ false
+and-false true = refl
+and-false false = refl
+
+and-left : (a b : Bool) → a && b ≡ true → a ≡ true
+and-left true b h = refl
+and-left false b h = h
+
+and-right : (a b : Bool) → a && b ≡ true → b ≡ true
+and-right true b h = h
+and-right false b h = cc
+
+module _ (p : ℕ → Bool) where
+  pub all-none : allBelow p 0 ≡ true
+  unfolding allBelow
+  all-none = refl
+
+  pub all-more : {n : ℕ} → allBelow p n ≡ true → p n ≡ true → allBelow p (n + 1) ≡ true
+  unfolding allBelow
+  all-more {n} h e = rw (add-one n, h, e)
+
+  pub all-stop : (i n : ℕ) → i < n → p i ≡ false → allBelow p n ≡ false
+  unfolding allBelow
+  all-stop i zero l e = absurd (not-suc-le-zero l)
+  all-stop i (suc n) l e =
+      ⊎-elim (λ q. rw (← q, e) (and-false (allBelow p i))) (λ o. rw (all-stop i n o e)) (eq-or-lt-of-le (le-of-suc-le-suc l))
+
+  pub all-at : (i n : ℕ) → allBelow p n ≡ true → i < n → p i ≡ true
+  unfolding allBelow
+  all-at i zero h l = absurd (not-suc-le-zero l)
+  all-at i (suc n) h l =
+      ⊎-elim (λ q. rw q (and-right (allBelow p n) (p n) h)) (λ o. all-at i n (and-left (allBelow p n) (p n) h) o) (eq-or-lt-of-le (le-of-suc-le-suc l))
+
+  pub all-of : (n : ℕ) → ((i : ℕ) → i < n → p i ≡ true) → allBelow p n ≡ true
+  unfolding allBelow
+  all-of zero h = refl
+  all-of (suc n) h = rw (all-of n (λ i l. h i (omega arith)), h n (omega arith))
+
+  -- The invariant of such a loop, whose test gives v in a turn
+  pub record Passing (n i : ℕ) : Type 0 where
+    pub within : i ≤ n
+    pub passed : allBelow p i ≡ true
+
+  module _ {n : ℕ} where
+    pub passing-none : Passing n 0
+    passing-none = record { within = omega arith; passed = all-none }
+
+    pub passing-step : {i : ℕ} {v : Bool} → Passing n i → i < n → v ≡ p i → v ≡ true → Passing n (i + 1)
+    passing-step u l e h = record { within = omega arith; passed = all-more (u .passed) (sym e ∙ h) }
+
+    pub passing-stop : {i : ℕ} {v : Bool} → i < n → v ≡ p i → v ≡ false → false ≡ allBelow p n
+    passing-stop {i} l e h = sym (all-stop i n l (sym e ∙ h))
+
+    pub passing-done : {i : ℕ} → Passing n i → n ≤ i → true ≡ allBelow p n
+    passing-done {i} u l = let e : n ≡ i = omega arith in rw e (sym (u .passed))

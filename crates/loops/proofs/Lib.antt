@@ -1,0 +1,5 @@
+pub mod Fill
+pub mod All
+pub mod First
+pub mod Fold
+pub mod Iter

@@ -1,0 +1,30 @@
+-- What a loop computes, for any element type and any function. Definitions only; their laws are in proofs/, a file for each.
+use mathlib.Core.Bool.{Bool, true, _&&_}
+use mathlib.Core.List.{List}
+use Prim.Native.Nat.{ℕ, zero, suc, _+_}
+use lib.ListN.{set}
+
+-- the list l with f 0, f 1, .., f (n - 1) stored at `at`, at + 1, ..
+unfoldable pub fill : {A : Type 0} → (ℕ → A) → List A → ℕ → ℕ → List A
+fill f l at zero = l
+fill f l at (suc n) = set (fill f l at n) (at + n) (f n)
+
+-- whether p holds of every number below n
+unfoldable pub allBelow : (ℕ → Bool) → ℕ → Bool
+allBelow p zero = true
+allBelow p (suc n) = allBelow p n && p n
+
+-- the first of v 0, v 1, .., v (n - 1) that is not `none`, else `none`: `pick a b` is a where a is an answer, and b where a is `none`
+unfoldable pub firstBelow : {R : Type 0} → (R → R → R) → R → (ℕ → R) → ℕ → R
+firstBelow pick none v zero = none
+firstBelow pick none v (suc n) = pick (firstBelow pick none v n) (v n)
+
+-- s put through f 0, f 1, .., f (n - 1)
+unfoldable pub foldUp : {S : Type 0} → (ℕ → S → S) → S → ℕ → S
+foldUp f s zero = s
+foldUp f s (suc n) = f n (foldUp f s n)
+
+-- s put through f, n times
+unfoldable pub iter : {S : Type 0} → (S → S) → S → ℕ → S
+iter f s zero = s
+iter f s (suc n) = f (iter f s n)

@@ -1,0 +1,1 @@
+// What loops compute, in specs/, and the laws of it, in proofs/. There is no code.

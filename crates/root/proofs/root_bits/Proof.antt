@@ -1,0 +1,96 @@
+-- `root::root_bits` meets its contract. Assumes nothing.
+use mathlib.Core.Path.{_≡_, refl, sym, ap, _∙_, subst}
+use Prim.Native.Nat.{ℕ, _+_, _-_, _*_, _/_, _%_, _^_, _≤_, _<_}
+use native.Mathlib.Nat.{mul-le-mul-left}
+use native.Mathlib.Omega.{arith}
+use borrow.Author.Needs.{needs}
+use Rattle.root.specs.Whole.{IsWholeRoot, wholeRoot}
+use Rattle.root.proofs.WholeLaws.{whole-root-is, one-root, root-by-rest, root-below}
+use Rattle.root.specs.Root.{cutPlaces}
+use Rattle.root.proofs.Powers.{wide-places, wide-cut}
+use Rattle.root.specs.Steps.{LeavesRest, IsWidened, unitsOf, rootPattern}
+use Rattle.root.proofs.root_bits.Statement.{statement}
+use Rattle.root.proofs.root_bits.Tie as tie
+use Rattle.root.proofs.root_bits.Reads as reads
+use Rattle.root.proofs.root_bits.Lts as lts
+use Rattle.root.proofs.whole_root.Reads as whole-root-reads
+use Rattle.root.proofs.widened.Reads as widened-reads
+
+at-least : (b d p : ℕ) → IsWidened b d p → 2 ^ 52 ≤ d * (1 + p % 2)
+at-least b d p w =
+    let one : 1 ≤ 1 + p % 2 = omega arith in
+    omega (arith, mul-le-mul-left d one, w .full)
+
+evened : (b d p : ℕ) → IsWidened b d p → d * (1 + p % 2) < 2 ^ 54
+evened b d p w =
+    let one : 1 + p % 2 ≤ 2 = omega arith in
+    omega (arith, mul-le-mul-left d one, w .bound)
+
+is-root : (m root rest : ℕ) → m < 2 ^ 54 → LeavesRest (m * 2 ^ 52) root rest → root ≡ wholeRoot 53 (m * 2 ^ 52)
+is-root m root rest h l =
+    let n : m * 2 ^ 52 < 4 ^ 53 = omega arith in
+    one-root (m * 2 ^ 52) root (wholeRoot 53 (m * 2 ^ 52)) (root-by-rest (m * 2 ^ 52) root rest (l .all) (l .small)) (whole-root-is 53 (m * 2 ^ 52) n)
+
+root-lt : (m root rest : ℕ) → m < 2 ^ 54 → LeavesRest (m * 2 ^ 52) root rest → root < 2 ^ 53
+root-lt m root rest h l =
+    let n : m * 2 ^ 52 < 2 ^ 53 * 2 ^ 53 = omega arith in
+    let r : root * root ≤ m * 2 ^ 52 = omega (arith, l .all) in
+    root-below (m * 2 ^ 52) root (2 ^ 53) r n
+
+pattern-is : (n k q : ℕ) → cutPlaces n ≡ k → wholeRoot 53 (n / 4 ^ k) ≡ q → rootPattern n ≡ k * 2 ^ 52 + q
+unfolding rootPattern
+pattern-is n k q e f = ap (λ (x : ℕ). x * 2 ^ 52 + wholeRoot 53 (n / 4 ^ x)) e ∙ ap (λ (x : ℕ). k * 2 ^ 52 + x) f
+
+whole : (b d p root rest : ℕ) → IsWidened b d p → LeavesRest (d * (1 + p % 2) * 2 ^ 52) root rest → (p - 52) / 2 * 2 ^ 52 + root ≡ rootPattern (unitsOf b * 2 ^ 1074)
+whole b d p root rest w l =
+    sym
+    (ap rootPattern (w .value)
+    ∙ pattern-is (d * 2 ^ p) ((p - 52) / 2) root (wide-places d p (w .full) (w .bound) (w .least))
+    (ap (wholeRoot 53) (wide-cut d p (w .full) (w .bound) (w .least)) ∙ sym (is-root (d * (1 + p % 2)) root rest (evened b d p w) l)))
+
+widened-requires : tie.Need-widened-requires
+widened-requires c κs = search needs
+
+add-m : tie.Need-add-m
+add-m c = search needs
+
+mul-m : tie.Need-mul-m
+mul-m c = omega (arith, evened (c .before .args .b) (c .widened .result .digits) (c .widened .result .power) (c .widened .ensures))
+
+whole-root-requires : tie.Need-whole-root-requires
+whole-root-requires c κs =
+    let b = c .before .args .b in
+    let d = c .widened .result .digits in
+    let p = c .widened .result .power in
+    (at-least b d p (c .widened .ensures), evened b d p (c .widened .ensures))
+
+sub-result : tie.Need-sub-result
+sub-result c = search needs
+
+mul-result : tie.Need-mul-result
+mul-result c = search needs
+
+add-result : tie.Need-add-result
+add-result c =
+    let w = c .before .before in
+    let d = w .widened .result .digits in
+    let p = w .widened .result .power in
+    omega (arith, w .widened .ensures .most, root-lt (d * (1 + p % 2)) (c .before .whole-root .result .root) (c .before .whole-root .result .rest) (evened (w .before .args .b) d p (w .widened .ensures)) (c .before .whole-root .ensures))
+
+returns : tie.Need-returns
+returns c =
+    let w = c .before .before in
+    whole (w .before .args .b) (w .widened .result .digits) (w .widened .result .power) (c .before .whole-root .result .root) (c .before .whole-root .result .rest) (w .widened .ensures) (c .before .whole-root .ensures)
+
+pub root-bits-spec : {M : Type 1} → statement M
+root-bits-spec =
+    tie.close
+    (tie.spec
+    widened-requires
+    add-m
+    mul-m
+    whole-root-requires
+    sub-result
+    mul-result
+    add-result
+    returns)
