@@ -1,0 +1,1 @@
+// The job: its format, the questions put to it, and what is read from it.
