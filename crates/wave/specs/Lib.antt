@@ -1,0 +1,3 @@
+pub mod Wave
+pub mod Nodes
+pub mod Figures
