@@ -90,6 +90,9 @@ module _ (job : List ℕ) (h : Accepted job) where
   end-found y l =
       let pipes = pipeTable job in
       let w = one-fails (λ p. not (endsAt y (pipeIn pipes p))) (pipeCount pipes) (not-true _ (has-end y l)) in
-      let q = pipeIn pipes (w .0) in
-      (w .0, q, pipe-at pipes (w .0) (w .1),
-      ⊎-elim (λ e. inl (eqb-true _ _ e)) (λ e. inr (eqb-true _ _ e)) (either (eqb (q .start) y) (eqb (q .finish) y) (not-false _ (w .2))))
+      let q = pipeIn pipes (w .0) in (
+        w .0,
+        q,
+        pipe-at pipes (w .0) (w .1),
+        ⊎-elim (λ e. inl (eqb-true _ _ e)) (λ e. inr (eqb-true _ _ e)) (either (eqb (q .start) y) (eqb (q .finish) y) (not-false _ (w .2))),
+      )

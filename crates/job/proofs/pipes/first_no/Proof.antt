@@ -12,9 +12,9 @@ use Rattle.job.proofs.pipes.first_no.Tie as tie
 
 -- the table's rows, each by the answer that was worked out
 rows :
-  (c : tie.After-constants-fit)
-  → firstNo pipeQuestions (now (c .before .before .before .before .before .before .before .before .args .job))
-  ≡ cond (c .before .before .before .before .holds-records .result) (cond (c .before .before .before .holds-records2 .result) (cond (c .before .before .pipes-join .result) (cond (c .before .sections-fit .result) (cond (c .constants-fit .result) 0 9) 8) 7) 6) 5
+    (c : tie.After-constants-fit)
+    → firstNo pipeQuestions (now (c .before .before .before .before .before .before .before .before .args .job))
+    ≡ cond (c .before .before .before .before .holds-records .result) (cond (c .before .before .before .holds-records2 .result) (cond (c .before .before .pipes-join .result) (cond (c .before .sections-fit .result) (cond (c .constants-fit .result) 0 9) 8) 7) 6) 5
 unfolding pipeQuestions firstNo
 rows c =
     rw (
