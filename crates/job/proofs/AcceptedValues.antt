@@ -1,26 +1,25 @@
 -- What the numbers of an accepted job are: finite, and within their limits. A number is read wherever one is asked for, as 0 past the end. Assumes nothing.
-use mathlib.Core.Path.{_≡_, refl, ap, _∙_}
+use mathlib.Core.Path.{_≡_, refl}
 use mathlib.Core.Bool.{Bool, true, false, true≢false, not, _&&_, _||_}
 use mathlib.Core.Logic.{_⊎_, inl, inr, ⊎-elim}
-use mathlib.Core.List.{List, []}
+use mathlib.Core.List.{List}
 use mathlib.Core.Option.{some}
-use Prim.Native.Nat.{ℕ, zero, suc, _+_, _-_, _/_, _<_, _≤_, min}
-use native.Mathlib.Nat.{not-suc-le-zero}
+use Prim.Native.Nat.{ℕ, zero, suc, _+_, _/_, _<_}
 use native.Mathlib.Omega.{arith}
-use lib.ListN.{length, getD, getElem?}
-use lib.Dec.{eqb, ltb}
+use lib.ListN.{length, getElem?}
+use lib.Dec.{eqb}
 use lib.Ieee.{Float, lt, ofBits}
 use lib.Ieee.Scale.{finite}
 use borrow.Author.Tests.{eqb-true, not-true, not-false}
 use Rattle.loops.specs.Loops.{allBelow}
-use Rattle.loops.proofs.All.{all-at, all-of}
+use Rattle.loops.proofs.All.{all-at}
 use Rattle.fields.specs.Real.{zero64}
 use Rattle.fields.specs.Bytes.{finiteAt}
-use Rattle.job.specs.Job.{Job, Pipe, Kind, junction, reservoir, valve, pump, ScheduledNode, Initial, frictionAt, initialAt, floorAt, nodeAt, entryAt, scheduled}
-use Rattle.job.specs.Format.{listed, pipeTable, nodeTable, frictionTable, initialTable, scheduleTable, pipeCount, pipeIn, nodeCount, scheduleCount, rIn, frictionIn, sectionIn, initialIn, placeOf, entryIn, nodeIn, nodesIn, jobOf}
+use Rattle.job.specs.Job.{Pipe, ScheduledNode, Initial, frictionAt, initialAt, floorAt, nodeAt, entryAt, scheduled}
+use Rattle.job.specs.Format.{pipeTable, nodeTable, frictionTable, initialTable, scheduleTable, pipeCount, pipeIn, nodeCount, scheduleCount, rIn, frictionIn, sectionIn, initialIn, placeOf, entryIn, nodeIn, nodesIn, jobOf}
 use Rattle.job.specs.Questions.{notBelowZero, rFits, sectionFits, finiteSection, endsAt, hasEnd, nodesMet, Accepted}
 use Rattle.job.proofs.Tables.{both}
-use Rattle.job.proofs.Listed.{length-listed, getD-all}
+use Rattle.job.proofs.Listed.{getD-all}
 use Rattle.job.proofs.SectionLaws.{r-fits, section-fits, FiniteSection, finite-section}
 use Rattle.job.proofs.NodeLaws.{entry-finite}
 use Rattle.job.proofs.Laid.{pipe-at}

@@ -7,7 +7,7 @@ use lib.Ieee.{Float, binary64, ofBits, lt}
 use Rattle.fields.specs.Bytes.{u64At, f64At, zeroBitsAt}
 use Rattle.fields.specs.Real.{zero64, one64, two64, four64}
 use Rattle.loops.specs.Loops.{allBelow}
-use Rattle.job.specs.Job.{Job, Pipe, ScheduledNode, Initial, Laid, junction, reservoir, valve, pump, laidFrom, laid, sectionsOf, sections, nodeAt, entryAt, scheduled, frictionAt}
+use Rattle.job.specs.Job.{junction, reservoir, valve, pump, laidFrom, laid, sectionsOf, nodeAt, entryAt, scheduled}
 use Rattle.job.specs.Format.{listed, table, pipesIn, reachesOf, kindIn, frictionIn, initialIn, placeOf, nodeIn, nodesIn, jobOf}
 use Rattle.job.specs.Questions.{sizeFits, pairsFit, follows, tablesFollow, stepsFit, holdsRecords, joins, pipesJoin, sectionsFit, constantFits, constantsFit, kindFits, kindsFit, allFinite, hasNoFigures, valveFits, pumpFits, figuresFitKind, figureFits, figuresFit, endsAt, hasEnd, nodesMet, rFits, frictionFits, finiteSection, sectionFits, initialFits, entryFits, scheduleFits, schedulesFit, frictionRight, initialRight, schedulesRight, pairQuestions, pipeQuestions, nodeQuestions, valueQuestions, questions, firstNo, refusal, Accepted}
 

@@ -2,13 +2,13 @@
 use mathlib.Core.Path.{_≡_, refl, ap}
 use mathlib.Core.List.{List, [], _∷_}
 use mathlib.Core.Option.{some}
-use Prim.Native.Nat.{ℕ, zero, suc, _+_, _*_, _<_, _≤_}
+use Prim.Native.Nat.{ℕ, zero, suc, _+_, _<_, _≤_}
 use native.Mathlib.Numerals.{add-one}
 use native.Mathlib.Omega.{arith}
 use lib.ListN.{length, getElem?, take}
 use lib.Seq.{take-all}
 use Rattle.job.specs.declared.pipes.Firsts.{Firsts}
-use Rattle.job.specs.Job.{Job, Pipe, Laid, laidFrom, laid, sectionsOf}
+use Rattle.job.specs.Job.{Job, Pipe, laidFrom, laid, sectionsOf}
 use Rattle.job.specs.Format.{pipeCount, pipeIn, pipesIn, reachesOf, firstsOf}
 use Rattle.job.proofs.Listed.{length-listed, at-listed}
 

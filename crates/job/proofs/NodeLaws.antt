@@ -1,22 +1,20 @@
 -- What the yes to questions 10, 11 and 15 says of a node. Assumes nothing.
-use mathlib.Core.Path.{_≡_, refl, ap, _∙_}
-use mathlib.Core.Bool.{Bool, true, _&&_, _||_, not}
+use mathlib.Core.Path.{_≡_, ap, _∙_}
+use mathlib.Core.Bool.{true, _&&_}
 use mathlib.Core.List.{List}
-use Prim.Native.Nat.{ℕ, zero, suc, _+_, _-_, _*_, _/_, _<_, _≤_, min}
+use Prim.Native.Nat.{ℕ, _+_, _-_, _*_, _<_, _≤_, min}
 use native.Mathlib.Omega.{arith}
-use lib.ListN.{length, getD}
-use lib.Dec.{eqb, leb, ltb}
-use lib.Ieee.{Float, lt}
+use lib.ListN.{length}
+use lib.Dec.{leb}
+use lib.Ieee.{Float}
 use lib.Ieee.Scale.{finite}
 use borrow.Author.Tests.{leb-true, eqb-true}
-use Rattle.fields.specs.Real.{zero64, one64}
+use Rattle.fields.specs.Real.{zero64}
 use Rattle.fields.specs.Bytes.{finiteAt}
-use Rattle.loops.specs.Loops.{allBelow}
 use Rattle.loops.proofs.All.{all-at}
 use Rattle.job.specs.Job.{ScheduledNode, entryAt}
 use Rattle.job.specs.Format.{listed, nodeCount, kindNumber, scheduleCount, aOf, bOf, cOf, placeOf, entryIn, nodeIn, nodesIn, nodeOf}
-use Rattle.job.specs.Questions.{allFinite, figuresFitKind, figureFits, figuresFit, kindFits, kindsFit, notBelowZero, entryFits, scheduleFits, schedulesFit, hasLength, schedulesRight}
-use Rattle.job.specs.Asked.{NodesRight}
+use Rattle.job.specs.Questions.{allFinite, figuresFitKind, figureFits, figuresFit, kindFits, kindsFit, entryFits, scheduleFits, schedulesFit, hasLength, schedulesRight}
 use Rattle.job.proofs.Tables.{both}
 use Rattle.job.proofs.Listed.{length-listed, getD-listed}
 use Rattle.job.proofs.Places.{place-more, place-rises}

@@ -1,16 +1,16 @@
 -- Where questions 1 to 4 have a yes, each table lies within the file. Assumes nothing.
-use mathlib.Core.Path.{_≡_, refl, sym, _∙_, ap}
+use mathlib.Core.Path.{_≡_, refl}
 use mathlib.Core.Bool.{Bool, true, false, _&&_}
 use mathlib.Core.List.{List}
-use Prim.Native.Nat.{ℕ, zero, suc, _+_, _-_, _*_, _<_, _≤_}
+use Prim.Native.Nat.{ℕ, zero, suc, _+_, _-_, _<_, _≤_}
 use native.Mathlib.Omega.{arith}
-use native.Mathlib.Nat.{le-refl, add-zero, add-suc, suc-add}
+use native.Mathlib.Nat.{le-refl}
 use lib.ListN.{length, take, drop, length-take, length-drop}
-use lib.Dec.{eqb, leb}
+use lib.Dec.{leb}
 use borrow.Author.Tests.{leb-true, eqb-true, lt-ltb}
 use Rattle.loops.specs.Loops.{allBelow}
 use Rattle.loops.proofs.All.{all-at}
-use Rattle.job.specs.Format.{pairCount, listingSteps, pairsAsked, pairsEnd, offsetOf, lengthOf, table}
+use Rattle.job.specs.Format.{pairCount, pairsAsked, pairsEnd, offsetOf, lengthOf, table}
 use Rattle.job.specs.Questions.{beginOf, follows, sizeFits, pairsFit, tablesFollow, stepsFit, pairQuestions, firstNo}
 use Rattle.job.proofs.FirstNo.{yes}
 
@@ -33,13 +33,13 @@ pairs-right job h =
     let q4 = yes (stepsFit job) 3 _ (q3 .1) in
     record { size = q1 .0; pairs = q2 .0; tables = q3 .0; steps = q4 .0 }
 
-pub size-least : (job : List ℕ) → sizeFits job ≡ true → 46 ≤ length job
+pub size-least : (job : List ℕ) → sizeFits job ≡ true → pairsEnd pairsAsked ≤ length job
 unfolding sizeFits
-size-least job h = leb-true _ _ (both (leb 46 (length job)) _ h .0)
+size-least job h = leb-true _ _ (both (leb (pairsEnd pairsAsked) (length job)) _ h .0)
 
 pub size-most : (job : List ℕ) → sizeFits job ≡ true → length job ≤ 32768
 unfolding sizeFits
-size-most job h = leb-true _ _ (both (leb 46 (length job)) _ h .1)
+size-most job h = leb-true _ _ (both (leb (pairsEnd pairsAsked) (length job)) _ h .1)
 
 pub five-pairs : (job : List ℕ) → pairsFit job ≡ true → pairCount job ≡ pairsAsked
 unfolding pairsFit
@@ -66,7 +66,7 @@ module _ (job : List ℕ) (right : PairsRight job) where
   pub table-ends : (k : ℕ) → k < pairsAsked → offsetOf job k + lengthOf job k ≤ length job
   table-ends k l =
       let n = five-pairs job (right .pairs) in
-      let rises = climb (offsetOf job) (lengthOf job) (beginOf job) (pairCount job) follow (λ i. refl) (4 - k) (suc k) (omega arith) in
+      let rises = climb (offsetOf job) (lengthOf job) (beginOf job) (pairCount job) follow (λ i. refl) (pairsAsked - suc k) (suc k) (omega arith) in
       rw (← last) rises
 
   pub table-is : (k : ℕ) → k < pairsAsked → table job k ≡ take (lengthOf job k) (drop (offsetOf job k) job)

@@ -1,5 +1,5 @@
 -- The format of a job: the pairs, the tables, and the record that the bytes are read into. Past its end a list of bytes reads as 0. Definitions only.
-use mathlib.Core.Bool.{Bool, cond}
+use mathlib.Core.Bool.{cond}
 use mathlib.Core.List.{List, [], _∷_}
 use Prim.Native.Nat.{ℕ, zero, suc, _+_, _*_, _/_}
 use lib.ListN.{length, getD, take, drop}

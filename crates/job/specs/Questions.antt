@@ -115,7 +115,7 @@ figureFits nodes y = allFinite nodes y && figuresFitKind nodes y
 unfoldable pub figuresFit : List ℕ → Bool
 figuresFit nodes = allBelow (figureFits nodes) (nodeCount nodes)
 
--- 12 "Has each node a pipe end?"
+-- 12 "Has each node a pipe end?" Not every pipe has none there.
 unfoldable pub endsAt : ℕ → Pipe → Bool
 endsAt y q = eqb (q .start) y || eqb (q .finish) y
 
@@ -127,6 +127,7 @@ nodesMet pipes count = allBelow (hasEnd pipes) count
 
 -- ---- values
 
+-- "the right length"
 abbrev pub hasLength : ℕ → List ℕ → Bool
 hasLength n t = eqb (length t) n
 

@@ -1,9 +1,8 @@
 // The table of nodes, and questions 10 to 12.
 ghost use mathlib.Core.Path.{_≡_};
 ghost use mathlib.Core.Bool.{true};
-ghost use Prim.Native.Nat.{ℕ, _+_, _-_, _*_, _<_, _≤_, min};
+ghost use Prim.Native.Nat.{_+_, _-_, _*_, _<_, _≤_, min};
 ghost use lib.ListN.{length};
-ghost use lib.Ieee.Scale.{finite};
 ghost use Rattle.fields.specs.Bytes.{f64At, finiteAt};
 ghost use Rattle.job.specs.Format.{pipeCount, pipeIn, nodeCount, kindNumber, scheduleCount, kindIn, placeOf, nodeOf, nodeAtStep};
 ghost use Rattle.job.specs.Job.{entryAt, withValue};

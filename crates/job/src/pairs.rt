@@ -1,6 +1,6 @@
 // The pairs, the tables that they tell of, and questions 1 to 4.
 ghost use mathlib.Core.Path.{_≡_};
-ghost use Prim.Native.Nat.{ℕ, _+_, _*_, _<_, _≤_};
+ghost use Prim.Native.Nat.{_+_, _*_, _<_, _≤_};
 ghost use lib.ListN.{length};
 ghost use Rattle.job.specs.Format.{pairCount, listingSteps, pairsAsked, pairsEnd, offsetOf, lengthOf, table};
 ghost use Rattle.job.specs.Questions.{sizeFits, pairsFit, tablesFollow, stepsFit, pairQuestions, firstNo};

@@ -1,7 +1,7 @@
 // The tables of f64 numbers: friction, heads, flows and floors, schedules; and questions 13 to 15.
 ghost use mathlib.Core.Path.{_≡_};
 ghost use mathlib.Core.Bool.{true};
-ghost use Prim.Native.Nat.{ℕ, _+_, _*_, _/_, _<_, _≤_};
+ghost use Prim.Native.Nat.{_+_, _*_, _/_, _<_, _≤_};
 ghost use lib.ListN.{length};
 ghost use Rattle.loops.specs.Loops.{allBelow};
 ghost use Rattle.job.specs.Format.{nodeCount, rOf, sectionIn, initialOf, placeOf, entryIn};

@@ -1,5 +1,5 @@
 -- `job::first_no` meets its contract: the first part of the table that has a no decides. Assumes nothing.
-use mathlib.Core.Path.{_≡_, sym, _∙_}
+use mathlib.Core.Path.{sym, _∙_}
 use Rattle.job.proofs.FirstNo.{refusal-is, keeps, goes-on}
 use borrow.Author.Needs.{needs}
 use Rattle.job.proofs.first_no.Statement.{statement}

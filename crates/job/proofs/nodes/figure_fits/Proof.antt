@@ -1,5 +1,5 @@
 -- `job::nodes::figure_fits` meets its contract. Assumes nothing.
-use mathlib.Core.Path.{_≡_, sym, _∙_}
+use mathlib.Core.Path.{sym, _∙_}
 use Rattle.job.specs.Questions.{figureFits}
 use borrow.Author.Needs.{needs}
 use Rattle.job.proofs.nodes.figure_fits.Statement.{statement}

@@ -1,5 +1,4 @@
 -- `job::nodes::next_place` meets its contract. Assumes nothing.
-use native.Mathlib.Omega.{arith}
 use Rattle.job.proofs.Places.{place-more}
 use borrow.Author.Needs.{needs}
 use Rattle.job.proofs.nodes.next_place.Statement.{statement}

@@ -1,5 +1,5 @@
 -- `job::nodes::node_at` meets its contract. Assumes nothing.
-use mathlib.Core.Path.{_≡_, sym, ap, ap₂, _∙_}
+use mathlib.Core.Path.{sym, ap, ap₂, _∙_}
 use Rattle.job.specs.Job.{ScheduledNode, withValue}
 use Rattle.job.specs.Format.{nodeIn}
 use Rattle.job.proofs.NodeLaws.{node-is}

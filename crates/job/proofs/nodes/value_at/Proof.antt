@@ -1,10 +1,10 @@
 -- `job::nodes::value_at` meets its contract: entry n at step n, and the last entry after it. Assumes nothing.
-use mathlib.Core.Path.{_≡_, sym, _∙_}
+use mathlib.Core.Path.{sym, _∙_}
 use Prim.Native.Nat.{_+_, _*_, _≤_, _<_}
 use native.Mathlib.Omega.{arith}
 use lib.ListN.{length}
 use denote.Ref.{now}
-use Rattle.job.specs.Format.{scheduleCount, placeOf}
+use Rattle.job.specs.Format.{scheduleCount}
 use Rattle.job.proofs.NodeLaws.{count-least, entry-within, entry-finite, value-is}
 use borrow.Author.Needs.{needs}
 use Rattle.job.proofs.nodes.value_at.Statement.{statement}

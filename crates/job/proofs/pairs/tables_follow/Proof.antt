@@ -1,5 +1,5 @@
 -- `job::pairs::tables_follow` meets its contract: the invariant has where the next table must begin. Assumes nothing.
-use mathlib.Core.Path.{_≡_, refl, sym, _∙_}
+use mathlib.Core.Path.{_≡_, refl}
 use mathlib.Core.Bool.{false}
 use Prim.Native.Nat.{_-_}
 use native.Mathlib.Numerals.{add-one}

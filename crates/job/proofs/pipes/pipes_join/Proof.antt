@@ -3,7 +3,6 @@ use Prim.Native.Nat.{_-_}
 use native.Mathlib.Omega.{arith}
 use borrow.Author.Tests.{not-true, not-false}
 use Rattle.loops.proofs.All.{Passing, passing-none, passing-step, passing-stop, passing-done}
-use Prim.Native.Nat.{ℕ}
 use Rattle.job.specs.Format.{pipeIn}
 use Rattle.job.specs.Questions.{joins, pipesJoin}
 use borrow.Author.Needs.{needs}

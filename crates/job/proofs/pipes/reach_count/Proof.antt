@@ -1,5 +1,5 @@
 -- `job::pipes::reach_count` meets its contract. Assumes nothing.
-use mathlib.Core.Path.{_≡_, ap, _∙_}
+use mathlib.Core.Path.{ap, _∙_}
 use native.Mathlib.Omega.{arith}
 use denote.Ref.{now}
 use Rattle.job.specs.declared.pipes.Firsts.{Firsts}

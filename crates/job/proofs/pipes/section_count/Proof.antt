@@ -1,5 +1,5 @@
 -- `job::pipes::section_count` meets its contract. Assumes nothing.
-use mathlib.Core.Path.{_≡_, ap, _∙_}
+use mathlib.Core.Path.{ap, _∙_}
 use Rattle.job.specs.declared.pipes.Firsts.{Firsts}
 use Rattle.job.proofs.Laid.{firsts-all}
 use borrow.Author.Needs.{needs}

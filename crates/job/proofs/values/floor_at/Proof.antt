@@ -1,5 +1,5 @@
 -- `job::values::floor_at` meets its contract. Assumes nothing.
-use mathlib.Core.Path.{_≡_, sym, ap, _∙_}
+use mathlib.Core.Path.{sym, ap, _∙_}
 use Rattle.fields.specs.Bytes.{finiteAt}
 use Rattle.job.specs.Job.{Initial}
 use Rattle.job.proofs.SectionLaws.{section-finite, section-is}

@@ -1,5 +1,5 @@
 -- `job::values::section_fits` meets its contract. Assumes nothing.
-use mathlib.Core.Path.{_≡_, sym, _∙_}
+use mathlib.Core.Path.{sym, _∙_}
 use Rattle.fields.specs.Bytes.{finiteAt}
 use Rattle.job.proofs.SectionLaws.{finite-section}
 use Rattle.job.specs.Questions.{sectionFits}
