@@ -1,0 +1,8 @@
+pub mod State
+pub mod Step
+pub mod Scan
+pub mod Run
+pub mod Reader
+pub mod Calls
+pub mod Paths
+pub mod Demand
