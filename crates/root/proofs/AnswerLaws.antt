@@ -1,23 +1,24 @@
--- What `root` answers, by the argument's pattern. Assumes nothing.
+-- `rootOf` by the argument's pattern, and what follows of the call's answer. Assumes nothing.
 use mathlib.Core.Path.{_≡_, refl, sym, ap, ap₂, _∙_, subst}
 use Prim.Native.Nat.{ℕ, zero, suc, _+_, _-_, _*_, _/_, _%_, _^_, _≤_, _<_}
 use native.Mathlib.Nat.{not-le-of-lt}
 use native.Mathlib.Omega.{arith}
 use mathlib.Core.Bool.{Bool, true, false, not, cond, true≢false}
 use lib.Dec.{T, ltb, eqb·suc-zero, not-T, ltb→lt}
-use lib.Ieee.{Float, nan, inf, fin, binary64, size, fits, isNan, ne, ofBits, toBits, nanBits}
+use lib.Ieee.{Float, nan, inf, fin, binary64, size, fits, isNan, ne, lt, div, ofBits, toBits, nanBits}
 use lib.Ieee.Bits.{ofBits-fits, nanBits-above}
 use lib.Ieee.Compare.{differs-from-itself, nan-differs}
-use Rattle.root.specs.declared.answer.Root.{Root}
-use Rattle.root.specs.declared.answer.Root.the-variants.{Value, Refused}
 use Rattle.root.specs.Root.{rootable, IsRoot, cutPlaces, rootUnits, rootOf}
 use Rattle.root.specs.Steps.{unitsAt, unitsOf, rootPattern}
 use Rattle.root.proofs.Patterns.{Counts, pattern-counts, units-pos, count-below, count-unique, plus-pattern, minus-zero-pattern}
-use Rattle.root.proofs.RootLaws.{lead, lead-low, lead-high, few, enough, not-many, units-count, units-held, rootOf-is, root-is}
-use Rattle.root.specs.Answer.{rootAnswer}
+use Rattle.root.proofs.Lead.{lead, lead-low, lead-high, few, enough, not-many, units-count, units-held}
+use Rattle.root.proofs.Relation.{rootOf-is, root-is}
+use Rattle.root.proofs.Rootable.{plus-rootable, minus-not-rootable}
+use Rattle.root.specs.Answer.{refused, value, rootAnswer}
 
-pub nan-answer : (x : Float) → ne x x ≡ true → Refused ≡ rootAnswer x
-nan-answer x e = sym (ap rootAnswer (differs-from-itself x (subst T (sym e) tt)))
+pub nan-answer : (x : Float) → ne x x ≡ true → x ≡ rootOf x
+unfolding rootOf
+nan-answer x e = let n : x ≡ nan = differs-from-itself x (subst T (sym e) tt) in rw n
 
 pub no-nan : (x : Float) → ne x x ≡ false → T (not (isNan x))
 unfolding isNan
@@ -25,28 +26,30 @@ no-nan nan e = absurd (true≢false (sym nan-differs ∙ e))
 no-nan (inf s) e = tt
 no-nan (fin s m d) e = tt
 
-pub zero-answer : Value (ofBits binary64 0) ≡ rootAnswer (ofBits binary64 0)
-unfolding rootOf ofBits
+pub zero-answer : ofBits binary64 0 ≡ rootOf (ofBits binary64 0)
+unfolding rootOf lt ofBits
 zero-answer = refl
 
-pub minus-zero-answer : Value (ofBits binary64 0) ≡ rootAnswer (ofBits binary64 0x8000_0000_0000_0000)
-unfolding rootOf ofBits
+pub minus-zero-answer : ofBits binary64 0 ≡ rootOf (ofBits binary64 0x8000_0000_0000_0000)
+unfolding rootOf lt ofBits
 minus-zero-answer = refl
 
-pub high-answer : (x : Float) → T (fits binary64 x) → 0x7ff0_0000_0000_0000 ≤ toBits binary64 x → (toBits binary64 x ≡ 0x8000_0000_0000_0000 → ⊥) → Refused ≡ rootAnswer x
+-- 0 / 0 is a NaN
+pub high-answer : (x : Float) → T (fits binary64 x) → 0x7ff0_0000_0000_0000 ≤ toBits binary64 x → (toBits binary64 x ≡ 0x8000_0000_0000_0000 → ⊥) → div binary64 (ofBits binary64 0) (ofBits binary64 0) ≡ rootOf x
+unfolding rootOf div ofBits
 high-answer nan f h n = refl
 high-answer (inf s) f h n = refl
 high-answer (fin false m e) f h n = absurd (not-le-of-lt (plus-pattern m e f) h)
 high-answer (fin true zero e) f h n = absurd (n (minus-zero-pattern e))
-high-answer (fin true (suc m) e) f h n = ap (λ (t : Bool). cond t (Value (rootOf (fin true (suc m) e))) Refused) (sym (eqb·suc-zero m))
+high-answer (fin true (suc m) e) f h n = rw (minus-not-rootable m e)
 
 -- ---- a pattern of a value above zero
 
-units-answer : (x : Float) (u : ℕ) → Counts x false u → Value (rootUnits (u * 2 ^ 1074)) ≡ rootAnswer x
+units-answer : (x : Float) (u : ℕ) → Counts x false u → rootUnits (u * 2 ^ 1074) ≡ rootOf x
 units-answer nan u c = absurd c
 units-answer (inf s) u c = absurd c
 units-answer (fin true m e) u c = absurd (true≢false (c .0))
-units-answer (fin false m e) u c = ap Value (sym (rootOf-is false m e u (c .1)))
+units-answer (fin false m e) u c = sym (rootOf-is false m e u (plus-rootable m e) (c .1))
 
 lead-units : (k q : ℕ) → 2 ^ 52 ≤ q → q < 2 ^ 53 → unitsOf (k * 2 ^ 52 + q) ≡ q * 2 ^ k
 lead-units k q lo hi =
@@ -89,23 +92,18 @@ module _ (b : ℕ) (lo : 0 < b) (hi : b < 0x7ff0_0000_0000_0000) where
   pub root-no-nan : T (not (nanBits binary64 (rootPattern (unitsOf b * 2 ^ 1074))))
   root-no-nan = no-nan-below (rootPattern (unitsOf b * 2 ^ 1074)) (pattern-lt (unitsOf b * 2 ^ 1074) size-lo size-hi)
 
-  pub value-answer : Value (ofBits binary64 (rootPattern (unitsOf b * 2 ^ 1074))) ≡ rootAnswer (ofBits binary64 b)
-  value-answer = ap Value (pattern-value (unitsOf b * 2 ^ 1074) size-lo size-hi) ∙ units-answer (ofBits binary64 b) (unitsOf b) (pattern-counts b hi)
+  pub value-answer : ofBits binary64 (rootPattern (unitsOf b * 2 ^ 1074)) ≡ rootOf (ofBits binary64 b)
+  value-answer = pattern-value (unitsOf b * 2 ^ 1074) size-lo size-hi ∙ units-answer (ofBits binary64 b) (unitsOf b) (pattern-counts b hi)
 
 -- ---- for a caller: the value that is answered is the root, and is no NaN
 
-pub answer-is-root : (x v : Float) → T (fits binary64 x) → Value v ≡ rootAnswer x → IsRoot x v
-answer-is-root x v f e = go (rootable x) (root-is x f) e
+pub answer-is-root : (x r : Float) → T (fits binary64 x) → value r ≡ rootAnswer x → IsRoot x r
+unfolding rootAnswer
+answer-is-root x r f e = go (rootable x) (root-is x f) e
   where
-    same : (w : Float) → Value v ≡ Value w → v ≡ w
-    same w e = cc
-
-    go : (t : Bool) → (T t → IsRoot x (rootOf x)) → Value v ≡ cond t (Value (rootOf x)) Refused → IsRoot x v
-    go true i e = subst (λ (r : Float). IsRoot x r) (sym (same (rootOf x) e)) (i tt)
-    go false i e = absurd (let z : _≡_ {A = ℕ} 0 1 = cc in no z)
-      where
-        no : _≡_ {A = ℕ} 0 1 → ⊥
-        no z = omega arith
+    go : (t : Bool) → (t ≡ true → IsRoot x (rootOf x)) → value r ≡ cond t (value (rootOf x)) (refused 23) → IsRoot x r
+    go true i e = let s : r ≡ rootOf x = cc in rw s (i refl)
+    go false i e = let z : _≡_ {A = ℕ} 0 1 = cc in absurd (omega arith)
 
 pub root-number : (x r : Float) → IsRoot x r → T (not (isNan r))
 unfolding isNan

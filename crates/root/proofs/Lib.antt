@@ -1,6 +1,9 @@
 pub mod WholeLaws
 pub mod Powers
 pub mod Patterns
-pub mod RootLaws
+pub mod Lead
+pub mod Fractions
+pub mod Rootable
+pub mod Relation
 pub mod AnswerLaws
 pub mod Figures

@@ -2,3 +2,4 @@ pub mod Whole
 pub mod Root
 pub mod Steps
 pub mod Answer
+pub mod Figures

@@ -1,4 +1,8 @@
-// The wave equations along a reach, and the nodes.
+// The wave equations along a reach, and the nodes. Each function equals its definition in specs/ bit for bit.
+ghost use mathlib.Core.Path.{_≡_};
+ghost use Rattle.fields.specs.Real.{infinity64};
+ghost use Rattle.wave.specs.Wave as wave;
+ghost use Rattle.wave.specs.Nodes as nodes;
 
 // A node's sums over its pipe ends: b of K and t of S (B and T of document 01).
 pub struct Sums {
@@ -22,4 +26,207 @@ pub enum Node {
     Valve(f64, f64, f64),
     // speed; a, b, c
     Pump(f64, f64, f64, f64),
+}
+
+// What flows through a valve or a pump (q of document 01), or that the argument of the root that it
+// takes is not finite.
+pub enum Discharge {
+    Flow(f64),
+    NotFinite,
+}
+
+// ---- the wave equations
+
+// |x|
+pub fn magnitude(x: f64) -> f64
+    ensures { λ r. ⌜ r ≡ wave.magnitude x ⌝ }
+{
+    if x < 0.0 { -x } else { x }
+}
+
+// CP: along the reach from the section above, whose old head and flow are h and q.
+pub fn from_above(s: f64, r: f64, h: f64, q: f64) -> f64
+    ensures { λ cp. ⌜ cp ≡ wave.fromAbove s r h q ⌝ }
+{
+    (q + s * h) - (r * q) * magnitude(q)
+}
+
+// CM: along the reach from the section below.
+pub fn from_below(s: f64, r: f64, h: f64, q: f64) -> f64
+    ensures { λ cm. ⌜ cm ≡ wave.fromBelow s r h q ⌝ }
+{
+    (q - s * h) - (r * q) * magnitude(q)
+}
+
+// An inner section.
+pub fn inner(s: f64, cp: f64, cm: f64) -> HeadFlow
+    ensures { λ x. ⌜ x ≡ wave.inner s cp cm ⌝ }
+{
+    HeadFlow {
+        head: (cp - cm) / (s + s),
+        flow: (cp + cm) / 2.0,
+    }
+}
+
+// K at a pipe's finish and at its start, by the section next to it.
+pub fn finish_k(s: f64, r: f64, h: f64, q: f64) -> f64
+    ensures { λ k. ⌜ k ≡ wave.finishK s r h q ⌝ }
+{
+    from_above(s, r, h, q)
+}
+
+pub fn start_k(s: f64, r: f64, h: f64, q: f64) -> f64
+    ensures { λ k. ⌜ k ≡ wave.startK s r h q ⌝ }
+{
+    -from_below(s, r, h, q)
+}
+
+// The end of a pipe at its finish and at its start, where the node's head is h.
+pub fn finish_end(s: f64, k: f64, h: f64) -> HeadFlow
+    ensures { λ x. ⌜ x ≡ wave.finishEnd s k h ⌝ }
+{
+    HeadFlow {
+        head: h,
+        flow: k - s * h,
+    }
+}
+
+pub fn start_end(s: f64, k: f64, h: f64) -> HeadFlow
+    ensures { λ x. ⌜ x ≡ wave.startEnd s k h ⌝ }
+{
+    HeadFlow {
+        head: h,
+        flow: s * h - k,
+    }
+}
+
+impl Sums {
+    // The sums before any end.
+    pub fn none() -> Self
+        ensures { λ r. ⌜ r ≡ wave.noSums ⌝ }
+    {
+        Self { b: 0.0, t: 0.0 }
+    }
+
+    // The sums with one more end.
+    pub fn added(self, k: f64, s: f64) -> Self
+        ensures { λ r. ⌜ r ≡ wave.added self k s ⌝ }
+    {
+        Self {
+            b: self.b + k,
+            t: self.t + s,
+        }
+    }
+}
+
+// ---- the nodes
+
+// q of an opening, by w and y.
+pub fn orifice_flow(w: f64, y: f64) -> Discharge
+    ensures { λ r. ⌜ r ≡ nodes.orificeFlow w y ⌝ }
+{
+    if w == 0.0 {
+        return Discharge::Flow(0.0);
+    }
+    let z = magnitude(y);
+    let g = w * w + 4.0 * (w * z);
+    if fields::is_finite(g) {
+        let q = ((z + z) * w) / (w + root::root_of(g));
+        if y < 0.0 {
+            Discharge::Flow(-q)
+        } else {
+            Discharge::Flow(q)
+        }
+    } else {
+        Discharge::NotFinite
+    }
+}
+
+// q of a valve.
+pub fn valve_flow(opening: f64, a: f64, b: f64, sums: Sums) -> Discharge
+    ensures { λ r. ⌜ r ≡ nodes.valveFlow opening a b sums ⌝ }
+{
+    let w = ((opening * a) * (opening * a)) / sums.t;
+    let y = sums.b - sums.t * b;
+    orifice_flow(w, y)
+}
+
+// q of a pump, by y; t is T.
+pub fn lift_flow(b: f64, t: f64, y: f64) -> Discharge
+    ensures { λ r. ⌜ r ≡ nodes.liftFlow b t y ⌝ }
+{
+    if y > 0.0 {
+        let g = 1.0 + 4.0 * ((b * t) * y);
+        if fields::is_finite(g) {
+            Discharge::Flow((y + y) / (1.0 + root::root_of(g)))
+        } else {
+            Discharge::NotFinite
+        }
+    } else {
+        Discharge::Flow(0.0)
+    }
+}
+
+// q of a pump.
+pub fn pump_flow(speed: f64, a: f64, b: f64, c: f64, sums: Sums) -> Discharge
+    ensures { λ r. ⌜ r ≡ nodes.pumpFlow speed a b c sums ⌝ }
+{
+    let h = c + (speed * speed) * a;
+    let y = sums.t * h - sums.b;
+    lift_flow(b, sums.t, y)
+}
+
+// Plus infinity.
+fn infinity() -> f64
+    ensures { λ r. ⌜ r ≡ infinity64 ⌝ }
+{
+    f64::from_bits(0x7ff0_0000_0000_0000)
+}
+
+impl Sums {
+    // The head of a node out of which q flows, and of one into which it flows.
+    pub fn head_less(self, q: Discharge) -> f64
+        ensures { λ r. ⌜ r ≡ nodes.headLess q self ⌝ }
+    {
+        match q {
+            Discharge::Flow(q) => (self.b - q) / self.t,
+            Discharge::NotFinite => infinity(),
+        }
+    }
+
+    pub fn head_more(self, q: Discharge) -> f64
+        ensures { λ r. ⌜ r ≡ nodes.headMore q self ⌝ }
+    {
+        match q {
+            Discharge::Flow(q) => (self.b + q) / self.t,
+            Discharge::NotFinite => infinity(),
+        }
+    }
+}
+
+// H of a node whose sums are finite, by its kind.
+fn head_of(n: Node, sums: Sums) -> f64
+    ensures { λ r. ⌜ r ≡ nodes.headOf n sums ⌝ }
+{
+    match n {
+        Node::Junction(draw) => (sums.b - draw) / sums.t,
+        Node::Reservoir(level) => level,
+        Node::Valve(opening, a, b) => sums.head_less(valve_flow(opening, a, b, sums)),
+        Node::Pump(speed, a, b, c) => sums.head_more(pump_flow(speed, a, b, c, sums)),
+    }
+}
+
+// H of a node: plus infinity where a sum is not finite, of every kind.
+pub fn node_head(n: Node, sums: Sums) -> f64
+    ensures { λ r. ⌜ r ≡ nodes.nodeHead n sums ⌝ }
+{
+    if fields::is_finite(sums.b) {
+        if fields::is_finite(sums.t) {
+            head_of(n, sums)
+        } else {
+            infinity()
+        }
+    } else {
+        infinity()
+    }
 }

@@ -1,0 +1,113 @@
+-- `rootOf x` is the root of x where x may be rooted (`root-is`), and there is one root (`one-root-only`). Assumes nothing.
+use mathlib.Core.Path.{_≡_, refl, sym, ap, _∙_, subst}
+use mathlib.Core.Logic.{_⊎_, inl, inr}
+use Prim.Native.Nat.{ℕ, zero, suc, _+_, _-_, _*_, _/_, _%_, _^_, _≤_, _<_, zero-le}
+use native.Mathlib.Nat.{le-refl, le-trans, le-of-eq, le-of-lt, le-antisymm, lt-of-lt-of-le, lt-of-le-of-lt, zero-lt-suc, zero-mul, mul-zero, one-mul, mul-comm, mul-assoc, mul-left-comm, mul-right-comm, mul-mul-mul-comm, mul-pos, mul-le-mul-right, mul-le-mul-left, le-of-mul-le-mul-right, eq-of-mul-eq-mul-right, le-div-iff-mul-le, div-lt-iff-lt-mul, div-mul-le-self}
+use native.Mathlib.Omega.{arith}
+use mathlib.Core.Bool.{Bool, true, false, not, _&&_, _||_, cond, true≢false}
+use lib.IntN.{ℤ, pos, negsuc}
+use lib.Dec.{T, ltb, leb, eqb, ltb→lt, nltb→le, lt→ltb, eqb→eq, lit≤, lit<}
+use lib.Pow.{pow-add, pow-pos, pow-mono, shl-lt}
+use lib.Ieee.{Float, nan, inf, fin, binary64, up, down, size, odd, units, fits, le}
+use lib.Ieee.Digits.{size-lt, size-le, size-reaches}
+use lib.Ieee.Fits.{down-pos, odd-fits, cond-fits, inf-fits}
+use lib.Ieee.Exact.{HasValue, units-val}
+use lib.Ieee.Order.{le-of-values}
+use Rattle.root.specs.Whole.{IsWholeRoot, wholeRoot}
+use Rattle.root.proofs.WholeLaws.{whole-root-is, at-most-root, root-below}
+use Rattle.root.specs.Root.{rootable, SquareAtMost, plus, IsRoot, cutPlaces, rootUnits, rootOf}
+use Rattle.root.proofs.Powers.{four-pow, four-pos, pow-lt-back}
+use Rattle.root.proofs.Patterns.{Counts, Placed, placed, count-is, count-unique}
+use Rattle.root.proofs.Lead.{lead, cut-low, square-low, square-greatest, units-count, units-held, enough, not-many}
+use Rattle.root.proofs.Fractions.{to-units, of-units, minus-le, plus-le, same-units}
+
+-- ---- r is the greatest value whose square, in units of 2 ^ -2148, is at most n
+
+pub record Best (n : ℕ) (r : Float) : Type 0 where
+  pub count : ℕ
+  pub counts : Counts r false count
+  pub held : T (fits binary64 r)
+  pub low : count * count ≤ n
+  pub greatest : (m i : ℕ) → m < 2 ^ 53 → m * 2 ^ i * (m * 2 ^ i) ≤ n → m * 2 ^ i ≤ count
+
+best : (n : ℕ) → 105 ≤ size n → size n ≤ 3172 → Best n (rootUnits n)
+best n h g = record {
+  count = lead n * 2 ^ cutPlaces n;
+  counts = units-count n h g;
+  held = units-held n h g;
+  low = square-low n h;
+  greatest = square-greatest n h;
+}
+
+root-of-none : rootUnits 0 ≡ fin false 0 (pos 0)
+unfolding rootUnits
+root-of-none = refl
+
+only-zero : (v : ℕ) → v * v ≤ 0 → v ≤ 0
+only-zero zero h = h
+only-zero (suc v) h = le-trans (le-trans (le-of-eq (sym (one-mul (suc v)))) (mul-le-mul-right (suc v) (zero-lt-suc v))) h
+
+best-none : Best 0 (rootUnits 0)
+best-none = subst (λ (r : Float). Best 0 r) (sym root-of-none) record {
+  count = 0;
+  counts = (refl, refl);
+  held = unfold fits in tt;
+  low = le-refl 0;
+  greatest = λ m i l g. only-zero (m * 2 ^ i) g;
+}
+
+pub best-of : (u : ℕ) → u < 2 ^ 2098 → Best (u * 2 ^ 1074) (rootUnits (u * 2 ^ 1074))
+best-of zero h = best-none
+best-of (suc u) h = best (suc u * 2 ^ 1074) (enough (suc u) (zero-lt-suc u)) (not-many (suc u) h)
+
+-- ---- the theorem
+
+best-root : (s : Bool) (m : ℕ) (e : ℤ) (u : ℕ) (r : Float) → T (rootable (fin s m e)) → m * up e * 2 ^ 1074 ≡ u * down e → Best (u * 2 ^ 1074) r → IsRoot (fin s m e) r
+best-root s m e u nan a v w = absurd (w .counts)
+best-root s m e u (inf t) a v w = absurd (w .counts)
+best-root s m e u (fin true n d) a v w = absurd (true≢false (w .counts .0))
+best-root s m e u (fin false n d) a v w = record {
+  allowed = a;
+  held = w .held;
+  sign = tt;
+  square = of-units (n * up d) (down d) (m * up e) (down e) (2 ^ 1074) u (w .count) (w .counts .1) v (pow-pos 1074) (w .low);
+  greatest = top;
+}
+  where
+    top : (q : Float) → T (fits binary64 q) → SquareAtMost q (fin s m e) → T (le q (fin false n d))
+    top nan f h = absurd h
+    top (inf t) f h = absurd h
+    top (fin true a c) f h = minus-le a c n d
+    top (fin false a c) f h =
+        let p = placed false a c f in
+        let k = a * 2 ^ p .place in
+        let l : k * k ≤ u * 2 ^ 1074 = to-units (a * up c) (down c) (m * up e) (down e) (2 ^ 1074) u k (p .value) v (down-pos c) (down-pos e) h in
+        le-of-values (fin false a c) (fin false n d) k (2 ^ 1074) (w .count) (2 ^ 1074) (pow-pos 1074) (pow-pos 1074) (refl, p .value) (w .counts) (mul-le-mul-right (2 ^ 1074) (w .greatest a (p .place) (p .short) l))
+
+pub rootOf-is : (s : Bool) (m : ℕ) (e : ℤ) (u : ℕ) → rootable (fin s m e) ≡ true → m * up e * 2 ^ 1074 ≡ u * down e → rootOf (fin s m e) ≡ rootUnits (u * 2 ^ 1074)
+unfolding rootOf
+rootOf-is s m e u a v =
+    ap (λ (t : Bool). cond t (rootUnits (m * up e * 2 ^ 1074 / down e * 2 ^ 1074)) nan) a ∙ ap (λ (x : ℕ). rootUnits (x * 2 ^ 1074)) (count-is m e u v)
+
+pub root-is : (x : Float) → T (fits binary64 x) → rootable x ≡ true → IsRoot x (rootOf x)
+unfolding rootable
+root-is nan f a = absurd (true≢false (sym a))
+root-is (inf s) f a = absurd (true≢false (sym a))
+root-is (fin s m e) f a =
+    let p = placed s m e f in
+    let u = m * 2 ^ p .place in
+    rw (rootOf-is s m e u a (p .value)) (best-root s m e u (rootUnits (u * 2 ^ 1074)) (subst T (sym a) tt) (p .value) (best-of u (p .below)))
+
+pub one-root-only : (x r q : Float) → IsRoot x r → IsRoot x q → r ≡ q
+one-root-only x nan q i j = absurd (i .square)
+one-root-only x (inf s) q i j = absurd (i .square)
+one-root-only x (fin true m e) q i j = absurd (i .sign)
+one-root-only x (fin false m e) nan i j = absurd (j .square)
+one-root-only x (fin false m e) (inf s) i j = absurd (j .square)
+one-root-only x (fin false m e) (fin true n d) i j = absurd (j .sign)
+one-root-only x (fin false m e) (fin false n d) i j =
+    let p = placed false m e (i .held) in
+    let o = placed false n d (j .held) in
+    let h : m * up e * down d ≡ n * up d * down e = le-antisymm (plus-le m e n d (j .greatest (fin false m e) (i .held) (i .square))) (plus-le n d m e (i .greatest (fin false n d) (j .held) (j .square))) in
+    let k : m * 2 ^ p .place ≡ n * 2 ^ o .place = same-units (m * up e) (down e) (n * up d) (down d) (2 ^ 1074) (m * 2 ^ p .place) (n * 2 ^ o .place) (p .value) (o .value) (down-pos e) (down-pos d) h in
+    count-unique (fin false m e) (fin false n d) (m * 2 ^ p .place) (i .held) (j .held) (refl, p .value) (refl, o .value ∙ ap (λ (z : ℕ). z * down d) (sym k))

@@ -1,0 +1,73 @@
+-- `root::root_of` meets its contract: each return is a law of `specs/AnswerLaws.antt`, taken from the argument's pattern to the argument. Assumes nothing.
+use mathlib.Core.Path.{_≡_, refl, sym, ap, _∙_, subst}
+use Prim.Native.Nat.{ℕ, _<_, _≤_, _*_, _^_}
+use native.Mathlib.Nat.{lt-of-not-le}
+use native.Mathlib.Omega.{arith}
+use mathlib.Core.Bool.{Bool, not}
+use borrow.Author.Needs.{needs}
+use lib.Dec.{T}
+use lib.Ieee.{Float, binary64, fits, ofBits, toBits, nanBits}
+use lib.Ieee.Bits.{ofBits-toBits}
+use Rattle.root.specs.Root.{rootOf}
+use Rattle.root.proofs.AnswerLaws.{nan-answer, no-nan, zero-answer, minus-zero-answer, high-answer, root-no-nan, value-answer}
+use Rattle.root.proofs.root_of.Statement.{statement}
+use Rattle.root.proofs.root_of.Tie as tie
+use Rattle.root.proofs.root_of.Reads as reads
+use Rattle.root.proofs.root_of.Lts as lts
+use Rattle.root.proofs.root_bits.Reads as root-bits-reads
+
+-- what owning an `f64` tells: the format holds it
+held : (c : tie.Start) → T (fits binary64 (c .args .x))
+held c = subst T (sym (c .good .0 .1)) tt
+
+-- the answer at x, from the answer at x's pattern
+at : (c : tie.Start) (b : ℕ) → toBits binary64 (c .args .x) ≡ b → rootOf (ofBits binary64 b) ≡ rootOf (c .args .x)
+at c b e = ap rootOf (ap (ofBits binary64) (sym e) ∙ ofBits-toBits binary64 (c .args .x) (held c))
+
+returns : tie.Need-returns
+returns c = nan-answer (c .before .args .x) (c .if1 .taken)
+
+float-to-bits-b : tie.Need-float-to-bits-b
+float-to-bits-b c = no-nan (c .before .args .x) (c .if1 .left)
+
+returns-2 : tie.Need-returns-2
+returns-2 c = zero-answer ∙ at (c .before .before) 0 (c .if2 .taken)
+
+returns-3 : tie.Need-returns-3
+returns-3 c = minus-zero-answer ∙ at (c .before .before .before) 0x8000_0000_0000_0000 (c .if3 .taken)
+
+returns-4 : tie.Need-returns-4
+returns-4 c = let s = c .before .before .before .before in high-answer (s .args .x) (held s) (c .if4 .taken) (c .before .if3 .left)
+
+root-bits-requires : tie.Need-root-bits-requires
+root-bits-requires c κs = search needs
+
+above : (c : tie.Else4) → 0 < toBits binary64 (c .before .before .before .before .args .x)
+above c = positive (toBits binary64 (c .before .before .before .before .args .x)) (c .before .before .if2 .left)
+  where
+    positive : (b : ℕ) → (b ≡ 0 → ⊥) → 0 < b
+    positive b n = omega arith
+
+float-from-bits-result : tie.Need-float-from-bits-result
+float-from-bits-result c =
+    let b = toBits binary64 (c .before .before .before .before .before .args .x) in
+    subst (λ (r : ℕ). T (not (nanBits binary64 r))) (sym (c .root-bits .ensures)) (root-no-nan b (above (c .before)) (c .before .if4 .left))
+
+returns-5 : tie.Need-returns-5
+returns-5 c =
+    let s = c .before .before .before .before .before in
+    let b = toBits binary64 (s .args .x) in
+    ap (ofBits binary64) (c .root-bits .ensures) ∙ value-answer b (above (c .before)) (c .before .if4 .left) ∙ at s b refl
+
+pub root-of-spec : {M : Type 1} → statement M
+root-of-spec =
+    tie.close
+    (tie.spec
+    returns
+    float-to-bits-b
+    returns-2
+    returns-3
+    returns-4
+    root-bits-requires
+    float-from-bits-result
+    returns-5)

@@ -1,0 +1,16 @@
+-- `wave::Sums::head_less` meets its contract, in each arm of its match. Assumes nothing.
+use borrow.Author.Needs.{needs}
+use Rattle.wave.specs.Nodes.{headLess}
+use Rattle.wave.proofs.Sums.head_less.Statement.{statement}
+use Rattle.wave.proofs.Sums.head_less.Tie as tie
+
+returns : tie.Need-returns
+unfolding headLess
+returns c = rw (c .before .before .before .q .given .1)
+
+returns-2 : tie.Need-returns-2
+unfolding headLess
+returns-2 c = rw (c .before .enum-told .given .1) (c .infinity .ensures)
+
+pub head-less-spec : {M : Type 1} → statement M
+head-less-spec = tie.close (tie.spec (λ c. search needs) (λ c. search needs) (λ c κs. search needs) returns returns-2)

@@ -1,0 +1,16 @@
+-- `wave::Sums::head_more` meets its contract, in each arm of its match. Assumes nothing.
+use borrow.Author.Needs.{needs}
+use Rattle.wave.specs.Nodes.{headMore}
+use Rattle.wave.proofs.Sums.head_more.Statement.{statement}
+use Rattle.wave.proofs.Sums.head_more.Tie as tie
+
+returns : tie.Need-returns
+unfolding headMore
+returns c = rw (c .before .before .before .q .given .1)
+
+returns-2 : tie.Need-returns-2
+unfolding headMore
+returns-2 c = rw (c .before .enum-told .given .1) (c .infinity .ensures)
+
+pub head-more-spec : {M : Type 1} → statement M
+head-more-spec = tie.close (tie.spec (λ c. search needs) (λ c. search needs) (λ c κs. search needs) returns returns-2)

@@ -1,0 +1,12 @@
+-- `wave::Sums::none` meets its contract: the definition is what the code computes. Assumes nothing.
+use mathlib.Core.Path.{refl}
+use Rattle.wave.specs.Wave.{noSums}
+use Rattle.wave.proofs.Sums.none.Statement.{statement}
+use Rattle.wave.proofs.Sums.none.Tie as tie
+
+returns : tie.Need-returns
+unfolding noSums
+returns c = refl
+
+pub none-spec : {M : Type 1} → statement M
+none-spec = tie.close (tie.spec returns)

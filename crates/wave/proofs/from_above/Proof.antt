@@ -1,0 +1,12 @@
+-- `wave::from_above` meets its contract, by that of `magnitude`. Assumes nothing.
+use borrow.Author.Needs.{needs}
+use Rattle.wave.specs.Wave.{fromAbove}
+use Rattle.wave.proofs.from_above.Statement.{statement}
+use Rattle.wave.proofs.from_above.Tie as tie
+
+returns : tie.Need-returns
+unfolding fromAbove
+returns c = rw (c .magnitude .ensures)
+
+pub from-above-spec : {M : Type 1} → statement M
+from-above-spec = tie.close (tie.spec (λ c κs. search needs) returns)

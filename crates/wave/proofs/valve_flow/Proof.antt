@@ -1,0 +1,12 @@
+-- `wave::valve_flow` meets its contract, by that of `orifice_flow`. Assumes nothing.
+use borrow.Author.Needs.{needs}
+use Rattle.wave.specs.Nodes.{valveFlow, valveW, valveY}
+use Rattle.wave.proofs.valve_flow.Statement.{statement}
+use Rattle.wave.proofs.valve_flow.Tie as tie
+
+returns : tie.Need-returns
+unfolding valveFlow valveW valveY
+returns c = c .orifice-flow .ensures
+
+pub valve-flow-spec : {M : Type 1} → statement M
+valve-flow-spec = tie.close (tie.spec (λ c κs. search needs) returns)

@@ -1,0 +1,90 @@
+-- The nodes: a valve's and a pump's flow, and the head of a node of each kind. Definitions only.
+-- Document 01, 'Nodes': v is the node's scheduled value at the step, B and T are its sums.
+use mathlib.Core.Bool.{_&&_, cond}
+use lib.Ieee.{Float, neg, lt, eq}
+use lib.Ieee.Scale.{finite}
+use Rattle.fields.specs.Real.{_⊞_, _⊟_, _⊠_, _⊘_, zero64, one64, four64, infinity64}
+use Rattle.root.specs.Root.{rootOf}
+use Rattle.wave.specs.declared.Sums.{Sums}
+use Rattle.wave.specs.declared.Node.{Node}
+use Rattle.wave.specs.declared.Node.the-variants.{Junction, Reservoir, Valve, Pump}
+use Rattle.wave.specs.declared.Discharge.{Discharge}
+use Rattle.wave.specs.declared.Discharge.the-variants.{Flow, NotFinite}
+use Rattle.wave.specs.Wave.{magnitude}
+
+-- q, where the argument g of the root that it takes is finite
+unfoldable pub rooted : Float → Float → Discharge
+rooted g q = cond (finite g) (Flow q) NotFinite
+
+-- ---- kind 2, "valve into a tank of head b, full-open coefficient a, opening v"
+
+-- w. "w = ((v·a)·(v·a))/T"
+unfoldable pub valveW : Float → Float → Float → Float
+valveW v a T = ((v ⊠ a) ⊠ (v ⊠ a)) ⊘ T
+
+-- y. "y = B - T·b"
+unfoldable pub valveY : Float → Float → Float → Float
+valveY b B T = B ⊟ T ⊠ b
+
+-- "r = root(w·w + 4·(w·z))": the argument of the root
+unfoldable pub orificeArgument : Float → Float → Float
+orificeArgument w z = w ⊠ w ⊞ four64 ⊠ (w ⊠ z)
+
+-- "q = ((z + z)·w)/(w + r)"
+unfoldable pub orificeRate : Float → Float → Float
+orificeRate w z = ((z ⊞ z) ⊠ w) ⊘ (w ⊞ rootOf (orificeArgument w z))
+
+-- q, from w and y. "Where w is zero, q = 0. Otherwise z = |y|, .., negated where y < 0."
+unfoldable pub orificeFlow : Float → Float → Discharge
+orificeFlow w y =
+    let z = magnitude y in
+    let q = orificeRate w z in
+    cond (eq w zero64) (Flow zero64) (rooted (orificeArgument w z) (cond (lt y zero64) (neg q) q))
+
+unfoldable pub valveFlow : Float → Float → Float → Sums → Discharge
+valveFlow v a b s = orificeFlow (valveW v a (s .t)) (valveY b (s .b) (s .t))
+
+-- ---- kind 3, "pump with a non-return valve: shut-off head a, coefficient b, sump head c, speed v"
+
+-- h. "h = c + (v·v)·a"
+unfoldable pub pumpH : Float → Float → Float → Float
+pumpH v a c = c ⊞ (v ⊠ v) ⊠ a
+
+-- y. "y = T·h - B"
+unfoldable pub pumpY : Float → Float → Float → Float
+pumpY h B T = T ⊠ h ⊟ B
+
+-- "root(1 + 4·((b·T)·y))": the argument of the root
+unfoldable pub pumpArgument : Float → Float → Float → Float
+pumpArgument b T y = one64 ⊞ four64 ⊠ ((b ⊠ T) ⊠ y)
+
+-- q, from y. "Where y > 0, q = (y + y)/(1 + root(1 + 4·((b·T)·y))), else q = 0."
+unfoldable pub liftFlow : Float → Float → Float → Discharge
+liftFlow b T y =
+    let g = pumpArgument b T y in
+    cond (lt zero64 y) (rooted g ((y ⊞ y) ⊘ (one64 ⊞ rootOf g))) (Flow zero64)
+
+unfoldable pub pumpFlow : Float → Float → Float → Float → Sums → Discharge
+pumpFlow v a b c s = liftFlow b (s .t) (pumpY (pumpH v a c) (s .b) (s .t))
+
+-- ---- the head
+
+-- "H = (B - q)/T" of a valve and "H = (B + q)/T" of a pump; "where .. the argument of a root that is taken is not finite, H is plus infinity"
+unfoldable pub headLess : Discharge → Sums → Float
+headLess (Flow q) s = (s .b ⊟ q) ⊘ s .t
+headLess NotFinite s = infinity64
+
+unfoldable pub headMore : Discharge → Sums → Float
+headMore (Flow q) s = (s .b ⊞ q) ⊘ s .t
+headMore NotFinite s = infinity64
+
+-- H, where B and T are finite. "Junction: H = (B - v)/T", "reservoir: H = v".
+unfoldable pub headOf : Node → Sums → Float
+headOf (Junction v) s = (s .b ⊟ v) ⊘ s .t
+headOf (Reservoir v) s = v
+headOf (Valve v a b) s = headLess (valveFlow v a b s) s
+headOf (Pump v a b c) s = headMore (pumpFlow v a b c s) s
+
+-- H. "Where B, T or the argument of a root that is taken is not finite, H is plus infinity": of every kind, a reservoir too.
+unfoldable pub nodeHead : Node → Sums → Float
+nodeHead n s = cond (finite (s .b) && finite (s .t)) (headOf n s) infinity64
