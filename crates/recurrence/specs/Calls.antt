@@ -8,8 +8,8 @@ use lib.ListN.{length, getD, drop}
 use lib.Ieee.{Float}
 use Rattle.fields.specs.Real.{zero64}
 use Rattle.job.specs.Job.{Job, sections}
-use Rattle.recurrence.specs.Reader.{firstNo, jobOf}
-use Rattle.recurrence.specs.State.{Point, State, tabulated}
+use Rattle.recurrence.specs.Reader.{refusal, jobOf}
+use Rattle.recurrence.specs.State.{Point, State, listed}
 use Rattle.recurrence.specs.Run.{Run, Result, refused, ran, Answer, answerOf, start, Call, runOn}
 
 -- "Heads, flows, two envelopes and two spare rows are lent slices of f64 numbers, to start and run-on alike."
@@ -32,7 +32,7 @@ unfoldable pub pointIn : Rows → ℕ → Point
 pointIn r s = record { head = getD (r .heads) s zero64; flow = getD (r .flows) s zero64; highest = getD (r .highest) s zero64; lowest = getD (r .lowest) s zero64 }
 
 unfoldable pub stateIn : ℕ → Rows → State
-stateIn n r = record { points = tabulated n (pointIn r) }
+stateIn n r = record { points = listed n (pointIn r) }
 
 -- A row after an unrefused call: a field of the points up to the section count n; "entries past the count in use are untouched".
 unfoldable pub rowOf : ℕ → State → (Point → Float) → List Float → List Float
@@ -61,7 +61,7 @@ pub record Called : Type 0 where
 
 -- "Questions 1 to 15 go to every call that takes a job."
 unfoldable pub readFirst : List ℕ → (Job → Result) → Result
-readFirst bytes call = cond (eqb (firstNo bytes) 0) (call (jobOf bytes)) (refused (firstNo bytes))
+readFirst bytes call = cond (eqb (refusal bytes) 0) (call (jobOf bytes)) (refused (refusal bytes))
 
 unfoldable pub called : List ℕ → Rows → Result → Called
 called bytes lent x = record { rows = rowsAfter (sections (jobOf bytes)) lent x; answer = answerOf x }

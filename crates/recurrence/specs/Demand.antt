@@ -6,15 +6,11 @@ use mathlib.Core.Option.{some}
 use Prim.Native.Nat.{ℕ, suc, _+_, _-_, _≤_, _<_}
 use lib.ListN.{getElem?, length}
 use Rattle.job.specs.Job.{Job, laid, sections, nodeAt, scheduled}
-use Rattle.recurrence.specs.Reader.{firstNo, jobOf}
+use Rattle.recurrence.specs.Reader.{Accepted, jobOf}
 use Rattle.recurrence.specs.State.{pointAt}
 use Rattle.recurrence.specs.Scan.{Cause}
 use Rattle.recurrence.specs.Run.{Call, stopAnswer, played, answers, stepsDone}
 use Rattle.recurrence.specs.Paths.{EndAt, AtLeast, NoPath}
-
--- none of the questions 1 to 15 gets a no
-abbrev pub Accepted : List ℕ → Type 0
-Accepted bytes = firstNo bytes ≡ 0
 
 -- "Jobs alike but for one node's scheduled values may differ in that node's schedule count": x is the node.
 pub record AlikeBut (x : ℕ) (A B : Job) : Type 0 where

@@ -25,13 +25,13 @@ unfoldable pub pointAt : State → ℕ → Point
 pointAt st s = getD (st .points) s noPoint
 
 -- f 0, f 1, .., f (n - 1)
-unfoldable pub tabulated : {A : Type 0} → ℕ → (ℕ → A) → List A
-tabulated zero f = []
-tabulated (suc n) f = f zero ∷ tabulated n (λ s. f (suc s))
+unfoldable pub listed : {A : Type 0} → ℕ → (ℕ → A) → List A
+listed zero f = []
+listed (suc n) f = f zero ∷ listed n (λ s. f (suc s))
 
 -- "The start writes the initial heads and flows, and both envelopes as the initial heads."
 unfoldable pub startPoint : Initial → Point
 startPoint i = record { head = i .head; flow = i .flow; highest = i .head; lowest = i .head }
 
 unfoldable pub startState : Job → State
-startState j = record { points = tabulated (sections j) (λ s. startPoint (initialAt j s)) }
+startState j = record { points = listed (sections j) (λ s. startPoint (initialAt j s)) }

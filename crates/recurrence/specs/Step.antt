@@ -11,7 +11,7 @@ use Rattle.wave.specs.declared.HeadFlow.{HeadFlow}
 use Rattle.wave.specs.Wave.{fromAbove, fromBelow, inner, finishK, startK, finishEnd, startEnd, sumsOf}
 use Rattle.wave.specs.Nodes.{nodeHead}
 use Rattle.job.specs.Job.{Job, Laid, laid, sections, frictionAt, nodeAt, scheduled, withValue}
-use Rattle.recurrence.specs.State.{Point, State, pointAt, tabulated}
+use Rattle.recurrence.specs.State.{Point, State, pointAt, listed}
 
 -- ---- what a step reads, beside the layout and the old state
 
@@ -53,15 +53,15 @@ kAtStart f st l = along startK f st l 0 1
 -- ---- the nodes
 
 -- What the pipe ends at node y give, in rising pipe number. A pipe's two nodes differ, so it has one end there at most.
-unfoldable pub endsAt : {A : Type 0} → (Laid → A) → (Laid → A) → ℕ → List Laid → List A
-endsAt atStart atFinish y [] = []
-endsAt atStart atFinish y (l ∷ ls) =
-    let rest = endsAt atStart atFinish y ls in
+unfoldable pub endsOf : {A : Type 0} → (Laid → A) → (Laid → A) → ℕ → List Laid → List A
+endsOf atStart atFinish y [] = []
+endsOf atStart atFinish y (l ∷ ls) =
+    let rest = endsOf atStart atFinish y ls in
     cond (eqb (l .pipe .start) y) (atStart l ∷ rest) (cond (eqb (l .pipe .finish) y) (atFinish l ∷ rest) rest)
 
 -- "For a node, B is the sum of K and T the sum of S over its pipe ends, added to +0 in rising pipe number."
 unfoldable pub sumsAt : List Laid → Inputs → State → ℕ → Sums
-sumsAt ls f st y = sumsOf (endsAt (kAtStart f st) (kAtFinish f st) y ls) (endsAt (λ l. l .pipe .S) (λ l. l .pipe .S) y ls)
+sumsAt ls f st y = sumsOf (endsOf (kAtStart f st) (kAtFinish f st) y ls) (endsOf (λ l. l .pipe .S) (λ l. l .pipe .S) y ls)
 
 -- H of node y
 unfoldable pub headAt : List Laid → Inputs → State → ℕ → Float
@@ -113,4 +113,4 @@ newPoint ls f st s = updated (newAt ls f st (located ls s)) (pointAt st s)
 
 -- "A step works out every section from the old state": step n, counted from 1
 unfoldable pub advanced : Job → ℕ → State → State
-advanced j n st = record { points = tabulated (sections j) (newPoint (laid j) (inputs j n) st) }
+advanced j n st = record { points = listed (sections j) (newPoint (laid j) (inputs j n) st) }

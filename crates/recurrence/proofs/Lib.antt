@@ -1,0 +1,4 @@
+pub mod Tests
+pub mod Listed
+pub mod Laying
+pub mod Cone
