@@ -1,1 +1,4 @@
 pub mod Job
+pub mod Format
+pub mod Questions
+pub mod Answer

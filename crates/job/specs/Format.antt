@@ -1,0 +1,142 @@
+-- The format of a job: the pairs, the tables, and the record that the bytes are read into. Past its end a list of bytes reads as 0. Definitions only.
+use mathlib.Core.Bool.{Bool, cond}
+use mathlib.Core.List.{List, [], _∷_}
+use Prim.Native.Nat.{ℕ, zero, suc, _+_, _*_, _/_}
+use lib.ListN.{length, take, drop}
+use lib.Dec.{ltb, eqb}
+use lib.Ieee.{Float}
+use Rattle.fields.specs.Bytes.{u8At, u16At, u32At, f64At}
+use Rattle.job.specs.Job.{Pipe, Kind, junction, reservoir, valve, pump, ScheduledNode, Initial, Job}
+
+-- f 0, f 1, .., f (n - 1)
+unfoldable pub listed : {A : Type 0} → ℕ → (ℕ → A) → List A
+listed zero f = []
+listed (suc n) f = f zero ∷ listed n (λ k. f (suc k))
+
+-- ---- "u16 count of pairs, u32 steps for the listing, then pairs (u32 offset, u32 length), sorted by offset"
+
+abbrev pub pairCount : List ℕ → ℕ
+pairCount job = u16At job 0
+
+abbrev pub listingSteps : List ℕ → ℕ
+listingSteps job = u32At job 2
+
+-- the number of pairs that a job must have
+abbrev pub pairsAsked : ℕ
+pairsAsked = 5
+
+-- where n pairs end: at 46 where there are five. The pair after them begins there.
+abbrev pub pairsEnd : ℕ → ℕ
+pairsEnd n = n * 8 + 6
+
+abbrev pub offsetOf : List ℕ → ℕ → ℕ
+offsetOf job k = u32At job (pairsEnd k)
+
+abbrev pub lengthOf : List ℕ → ℕ → ℕ
+lengthOf job k = u32At job (pairsEnd k + 4)
+
+-- "each table is read as its own part of the file": the table of pair k, counted from 0; empty where there is no such pair
+unfoldable pub table : List ℕ → ℕ → List ℕ
+table job k = cond (ltb k (pairCount job)) (take (lengthOf job k) (drop (offsetOf job k) job)) []
+
+-- tables 1 to 5
+abbrev pub pipeTable : List ℕ → List ℕ
+pipeTable job = table job 0
+
+abbrev pub nodeTable : List ℕ → List ℕ
+nodeTable job = table job 1
+
+abbrev pub frictionTable : List ℕ → List ℕ
+frictionTable job = table job 2
+
+abbrev pub initialTable : List ℕ → List ℕ
+initialTable job = table job 3
+
+abbrev pub scheduleTable : List ℕ → List ℕ
+scheduleTable job = table job 4
+
+-- ---- "1. Pipes, 12 bytes: u8 start node, u8 finish node, u16 reaches, f64 S."
+
+abbrev pub pipeCount : List ℕ → ℕ
+pipeCount pipes = length pipes / 12
+
+unfoldable pub pipeIn : List ℕ → ℕ → Pipe
+pipeIn pipes p =
+    record { start = u8At pipes (p * 12); finish = u8At pipes (p * 12 + 1); reaches = u16At pipes (p * 12 + 2); S = f64At pipes (p * 12 + 4) }
+
+unfoldable pub pipesIn : List ℕ → List Pipe
+pipesIn pipes = listed (pipeCount pipes) (pipeIn pipes)
+
+-- ---- "2. Nodes, 26 bytes: u8 kind, u8 schedule count, f64 a, b, c."
+
+abbrev pub nodeCount : List ℕ → ℕ
+nodeCount nodes = length nodes / 26
+
+abbrev pub kindNumber : List ℕ → ℕ → ℕ
+kindNumber nodes y = u8At nodes (y * 26)
+
+abbrev pub scheduleCount : List ℕ → ℕ → ℕ
+scheduleCount nodes y = u8At nodes (y * 26 + 1)
+
+-- the figures a, b, c of a node
+abbrev pub aOf : List ℕ → ℕ → Float
+aOf nodes y = f64At nodes (y * 26 + 2)
+
+abbrev pub bOf : List ℕ → ℕ → Float
+bOf nodes y = f64At nodes (y * 26 + 10)
+
+abbrev pub cOf : List ℕ → ℕ → Float
+cOf nodes y = f64At nodes (y * 26 + 18)
+
+-- "0, junction", "1, reservoir", "2, valve", "3, pump"
+unfoldable pub kindIn : List ℕ → ℕ → Kind
+kindIn nodes y =
+    cond (eqb (kindNumber nodes y) 0) junction
+    (cond (eqb (kindNumber nodes y) 1) reservoir
+    (cond (eqb (kindNumber nodes y) 2) (valve (aOf nodes y) (bOf nodes y))
+    (pump (aOf nodes y) (bOf nodes y) (cOf nodes y))))
+
+-- ---- "3. One f64 R per reach, pipe by pipe."
+
+unfoldable pub rIn : List ℕ → ℕ → Float
+rIn friction r = f64At friction (r * 8)
+
+unfoldable pub frictionIn : List ℕ → List Float
+frictionIn friction = listed (length friction / 8) (rIn friction)
+
+-- ---- "4. Per section, numbered through all pipes from 0: f64 head, flow, floor head."
+
+unfoldable pub sectionIn : List ℕ → ℕ → Initial
+sectionIn initial s =
+    record { head = f64At initial (s * 24); flow = f64At initial (s * 24 + 8); floor = f64At initial (s * 24 + 16) }
+
+unfoldable pub initialIn : List ℕ → List Initial
+initialIn initial = listed (length initial / 24) (sectionIn initial)
+
+-- ---- "5. f64 schedules, in node order, end to end."
+
+-- the number of entries before those of node y
+unfoldable pub placeOf : List ℕ → ℕ → ℕ
+placeOf nodes zero = 0
+placeOf nodes (suc y) = placeOf nodes y + scheduleCount nodes y
+
+abbrev pub entryIn : List ℕ → ℕ → Float
+entryIn schedules i = f64At schedules (i * 8)
+
+unfoldable pub nodeIn : List ℕ → List ℕ → ℕ → ScheduledNode
+nodeIn nodes schedules y =
+    record { kind = kindIn nodes y; schedule = listed (scheduleCount nodes y) (λ i. entryIn schedules (placeOf nodes y + i)) }
+
+unfoldable pub nodesIn : List ℕ → List ℕ → List ScheduledNode
+nodesIn nodes schedules = listed (nodeCount nodes) (nodeIn nodes schedules)
+
+-- ---- the job that the bytes hold
+
+unfoldable pub jobOf : List ℕ → Job
+jobOf job =
+    record {
+      pipes = pipesIn (pipeTable job);
+      nodes = nodesIn (nodeTable job) (scheduleTable job);
+      friction = frictionIn (frictionTable job);
+      initial = initialIn (initialTable job);
+    }

@@ -1,0 +1,203 @@
+-- "Questions 1 to 15 go to every call that takes a job." Each is a number and a test of the bytes. Definitions only.
+use mathlib.Core.Path.{_≡_}
+use mathlib.Core.Bool.{Bool, cond, not, _&&_, _||_}
+use mathlib.Core.List.{List, [], _∷_, _++_}
+use Prim.Native.Nat.{ℕ, zero, suc, _+_, _*_, _/_, _%_}
+use lib.ListN.{length}
+use lib.Dec.{leb, ltb, eqb}
+use lib.Ieee.{Float, lt}
+use lib.Ieee.Scale.{finite}
+use Rattle.fields.specs.Real.{zero64, one64}
+use Rattle.fields.specs.Bytes.{zeroBitsAt}
+use Rattle.loops.specs.Loops.{allBelow}
+use Rattle.job.specs.Job.{Pipe, Initial, sectionsOf}
+use Rattle.job.specs.Format.{pairCount, listingSteps, pairsAsked, pairsEnd, offsetOf, lengthOf, pipeTable, nodeTable, frictionTable, initialTable, scheduleTable, pipeCount, pipeIn, pipesIn, nodeCount, kindNumber, scheduleCount, aOf, bOf, cOf, rIn, sectionIn, placeOf, entryIn}
+
+-- "not below zero", which -0 is
+abbrev pub notBelowZero : Float → Bool
+notBelowZero x = not (lt x zero64)
+
+-- ---- the pairs
+
+-- 1 "Has the job 46 to 32,768 bytes?"
+unfoldable pub sizeFits : List ℕ → Bool
+sizeFits job = leb (pairsEnd pairsAsked) (length job) && leb (length job) 32768
+
+-- 2 "Are there five pairs?"
+unfoldable pub pairsFit : List ℕ → Bool
+pairsFit job = eqb (pairCount job) pairsAsked
+
+-- where table k must begin
+abbrev pub beginOf : List ℕ → ℕ → ℕ
+beginOf job zero = pairsEnd (pairCount job)
+beginOf job (suc k) = offsetOf job k + lengthOf job k
+
+-- 3 "Does the first table begin at 46, each next where the last ended, and the fifth end with the file?"
+unfoldable pub follows : List ℕ → ℕ → Bool
+follows job k = eqb (offsetOf job k) (beginOf job k)
+
+unfoldable pub tablesFollow : List ℕ → Bool
+tablesFollow job = allBelow (follows job) (pairCount job) && eqb (beginOf job (pairCount job)) (length job)
+
+-- 4 "Are the steps at most 1,000,000?"
+unfoldable pub stepsFit : List ℕ → Bool
+stepsFit job = leb (listingSteps job) 1000000
+
+-- ---- pipes and nodes
+
+-- a table of records, `width` bytes each, low to high of them and nothing else
+unfoldable pub holdsRecords : ℕ → ℕ → ℕ → List ℕ → Bool
+holdsRecords width low high t = eqb (length t % width) 0 && leb low (length t / width) && leb (length t / width) high
+
+-- 5 "Is table 1 whole, 1 to 32 pipes?"
+abbrev pub pipesFit : List ℕ → Bool
+pipesFit pipes = holdsRecords 12 1 32 pipes
+
+-- 6 "Is table 2 whole, 2 to 32 nodes?"
+abbrev pub nodesFit : List ℕ → Bool
+nodesFit nodes = holdsRecords 26 2 32 nodes
+
+-- 7 "Has each pipe two different nodes, both present, and 1 to 511 reaches?"
+unfoldable pub joins : ℕ → Pipe → Bool
+joins count q =
+    not (eqb (q .start) (q .finish)) && ltb (q .start) count && ltb (q .finish) count && leb 1 (q .reaches) && leb (q .reaches) 511
+
+unfoldable pub pipesJoin : List ℕ → ℕ → Bool
+pipesJoin pipes count = allBelow (λ p. joins count (pipeIn pipes p)) (pipeCount pipes)
+
+-- 8 "Are there at most 512 sections?"
+unfoldable pub sectionsFit : List ℕ → Bool
+sectionsFit pipes = leb (sectionsOf (pipesIn pipes)) 512
+
+-- 9 "Is each S finite and above zero?"
+unfoldable pub constantFits : Pipe → Bool
+constantFits q = finite (q .S) && lt zero64 (q .S)
+
+unfoldable pub constantsFit : List ℕ → Bool
+constantsFit pipes = allBelow (λ p. constantFits (pipeIn pipes p)) (pipeCount pipes)
+
+-- 10 "Is each kind 0 to 3 and each schedule count at least 1?"
+unfoldable pub kindFits : List ℕ → ℕ → Bool
+kindFits nodes y = leb (kindNumber nodes y) 3 && leb 1 (scheduleCount nodes y)
+
+unfoldable pub kindsFit : List ℕ → Bool
+kindsFit nodes = allBelow (kindFits nodes) (nodeCount nodes)
+
+-- 11 "Are a, b, c finite, valve a and pump a, b not below zero, fields the kind doesn't name all zero bits?"
+abbrev pub allFinite : List ℕ → ℕ → Bool
+allFinite nodes y = finite (aOf nodes y) && finite (bOf nodes y) && finite (cOf nodes y)
+
+abbrev pub zeroA : List ℕ → ℕ → Bool
+zeroA nodes y = zeroBitsAt nodes (y * 26 + 2)
+
+abbrev pub zeroB : List ℕ → ℕ → Bool
+zeroB nodes y = zeroBitsAt nodes (y * 26 + 10)
+
+abbrev pub zeroC : List ℕ → ℕ → Bool
+zeroC nodes y = zeroBitsAt nodes (y * 26 + 18)
+
+unfoldable pub figuresFitKind : List ℕ → ℕ → Bool
+figuresFitKind nodes y =
+    cond (eqb (kindNumber nodes y) 2) (notBelowZero (aOf nodes y) && zeroC nodes y)
+    (cond (eqb (kindNumber nodes y) 3) (notBelowZero (aOf nodes y) && notBelowZero (bOf nodes y))
+    (zeroA nodes y && zeroB nodes y && zeroC nodes y))
+
+unfoldable pub figureFits : List ℕ → ℕ → Bool
+figureFits nodes y = allFinite nodes y && figuresFitKind nodes y
+
+unfoldable pub figuresFit : List ℕ → Bool
+figuresFit nodes = allBelow (figureFits nodes) (nodeCount nodes)
+
+-- 12 "Has each node a pipe end?"
+unfoldable pub endsAt : ℕ → Pipe → Bool
+endsAt y q = eqb (q .start) y || eqb (q .finish) y
+
+unfoldable pub hasEnd : List ℕ → ℕ → Bool
+hasEnd pipes y = not (allBelow (λ p. not (endsAt y (pipeIn pipes p))) (pipeCount pipes))
+
+unfoldable pub nodesMet : List ℕ → ℕ → Bool
+nodesMet pipes count = allBelow (hasEnd pipes) count
+
+-- ---- values
+
+unfoldable pub reachesOf : List Pipe → ℕ
+reachesOf [] = 0
+reachesOf (q ∷ qs) = q .reaches + reachesOf qs
+
+-- 13 "Has table 3 the right length, each R finite and not below zero?"
+unfoldable pub rFits : List ℕ → ℕ → Bool
+rFits friction r = finite (rIn friction r) && notBelowZero (rIn friction r)
+
+unfoldable pub frictionFits : List ℕ → Bool
+frictionFits friction = allBelow (rFits friction) (length friction / 8)
+
+-- 14 "Has table 4 the right length, all finite, no head below its floor?"
+unfoldable pub sectionFits : Initial → Bool
+sectionFits i = finite (i .head) && finite (i .flow) && finite (i .floor) && not (lt (i .head) (i .floor))
+
+unfoldable pub initialFits : List ℕ → Bool
+initialFits initial = allBelow (λ s. sectionFits (sectionIn initial s)) (length initial / 24)
+
+-- 15 "Has table 5 the right length, all finite and in its kind's range?" A junction's draw-off and a reservoir's head are "any finite number", a valve's opening and a pump's speed "from 0 to 1".
+unfoldable pub entryFits : ℕ → Float → Bool
+entryFits kind v = finite v && (ltb kind 2 || notBelowZero v && not (lt one64 v))
+
+unfoldable pub scheduleFits : List ℕ → List ℕ → ℕ → Bool
+scheduleFits nodes schedules y =
+    allBelow (λ i. entryFits (kindNumber nodes y) (entryIn schedules (placeOf nodes y + i))) (scheduleCount nodes y)
+
+unfoldable pub schedulesFit : List ℕ → List ℕ → Bool
+schedulesFit nodes schedules = allBelow (scheduleFits nodes schedules) (nodeCount nodes)
+
+unfoldable pub hasLength : ℕ → List ℕ → Bool
+hasLength n t = eqb (length t) n
+
+-- ---- the table of questions
+
+abbrev pub Question : Type 0
+Question = ℕ × (List ℕ → Bool)
+
+unfoldable pub pairQuestions : List Question
+pairQuestions =
+    (1, sizeFits)
+    ∷ (2, pairsFit)
+    ∷ (3, tablesFollow)
+    ∷ (4, stepsFit)
+    ∷ []
+
+unfoldable pub pipeQuestions : List Question
+pipeQuestions =
+    (5, λ job. pipesFit (pipeTable job))
+    ∷ (6, λ job. nodesFit (nodeTable job))
+    ∷ (7, λ job. pipesJoin (pipeTable job) (nodeCount (nodeTable job)))
+    ∷ (8, λ job. sectionsFit (pipeTable job))
+    ∷ (9, λ job. constantsFit (pipeTable job))
+    ∷ []
+
+unfoldable pub nodeQuestions : List Question
+nodeQuestions =
+    (10, λ job. kindsFit (nodeTable job))
+    ∷ (11, λ job. figuresFit (nodeTable job))
+    ∷ (12, λ job. nodesMet (pipeTable job) (nodeCount (nodeTable job)))
+    ∷ []
+
+unfoldable pub valueQuestions : List Question
+valueQuestions =
+    (13, λ job. hasLength (reachesOf (pipesIn (pipeTable job)) * 8) (frictionTable job) && frictionFits (frictionTable job))
+    ∷ (14, λ job. hasLength (sectionsOf (pipesIn (pipeTable job)) * 24) (initialTable job) && initialFits (initialTable job))
+    ∷ (15, λ job. hasLength (placeOf (nodeTable job) (nodeCount (nodeTable job)) * 8) (scheduleTable job) && schedulesFit (nodeTable job) (scheduleTable job))
+    ∷ []
+
+unfoldable pub questions : List Question
+questions = pairQuestions ++ pipeQuestions ++ nodeQuestions ++ valueQuestions
+
+-- "The first no decides": its number, and 0 where every answer is yes
+unfoldable pub firstNo : List Question → List ℕ → ℕ
+firstNo [] job = 0
+firstNo (q ∷ qs) job = cond (q .1 job) (firstNo qs job) (q .0)
+
+unfoldable pub refusal : List ℕ → ℕ
+refusal job = firstNo questions job
+
+abbrev pub Accepted : List ℕ → Type 0
+Accepted job = refusal job ≡ 0
