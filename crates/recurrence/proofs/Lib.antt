@@ -1,6 +1,7 @@
 pub mod Tests
 pub mod Listed
 pub mod Laying
+pub mod Acceptance
 pub mod Cone
 pub mod Runs
 pub mod Agree
