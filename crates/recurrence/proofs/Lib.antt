@@ -7,3 +7,5 @@ pub mod Runs
 pub mod Agree
 pub mod Stops
 pub mod Theorem
+pub mod Tied
+pub mod InRows

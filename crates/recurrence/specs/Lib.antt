@@ -5,3 +5,4 @@ pub mod Run
 pub mod Calls
 pub mod Paths
 pub mod Demand
+pub mod Lent
