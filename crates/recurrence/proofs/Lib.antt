@@ -9,3 +9,5 @@ pub mod Stops
 pub mod Theorem
 pub mod Tied
 pub mod InRows
+pub mod Opened
+pub mod Figures
