@@ -11,3 +11,4 @@ pub mod Tied
 pub mod InRows
 pub mod Opened
 pub mod Figures
+pub mod Sharp

@@ -8,3 +8,4 @@ pub mod Demand
 pub mod Lent
 pub mod Figures
 pub mod OwnFigures
+pub mod Sharp
