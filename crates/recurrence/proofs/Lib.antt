@@ -12,3 +12,5 @@ pub mod InRows
 pub mod Opened
 pub mod Figures
 pub mod Sharp
+pub mod SameBits
+pub mod RowLaws
