@@ -28,7 +28,7 @@ finished-advanced j n old st e = go (scan j (advanced j n old)) e
 
 finished-sized : (j : Job) (n : ℕ) (old st : State) → step j n old ≡ finished st → length (st .points) ≡ sections j
 unfolding advanced
-finished-sized j n old st e = rw (← (finished-advanced j n old st e)) (length-listed (sections j) (newPoint (laid j) (inputs j n) old))
+finished-sized j n old st e = rw (← (finished-advanced j n old st e)) (length-listed (sections j) _)
 
 abbrev Stands : Job → Run → Type 0
 Stands j r = Reached j (r .done) (r .state)
