@@ -1,4 +1,4 @@
--- `root::root_bits` meets its contract. Assumes nothing.
+-- `root::root_bits` meets its contract: the significand at full width has its root's digits, and half the power is the exponent's field. Assumes nothing.
 use mathlib.Core.Path.{_≡_, refl, sym, ap, _∙_, subst}
 use Prim.Native.Nat.{ℕ, _+_, _-_, _*_, _/_, _%_, _^_, _≤_, _<_}
 use native.Mathlib.Nat.{mul-le-mul-left}
@@ -11,10 +11,6 @@ use Rattle.root.proofs.Powers.{wide-places, wide-cut}
 use Rattle.root.specs.Steps.{LeavesRest, IsWidened, unitsOf, rootPattern}
 use Rattle.root.proofs.root_bits.Statement.{statement}
 use Rattle.root.proofs.root_bits.Tie as tie
-use Rattle.root.proofs.root_bits.Reads as reads
-use Rattle.root.proofs.root_bits.Lts as lts
-use Rattle.root.proofs.whole_root.Reads as whole-root-reads
-use Rattle.root.proofs.widened.Reads as widened-reads
 
 at-least : (b d p : ℕ) → IsWidened b d p → 2 ^ 52 ≤ d * (1 + p % 2)
 at-least b d p w =
@@ -41,18 +37,12 @@ pattern-is : (n k q : ℕ) → cutPlaces n ≡ k → wholeRoot 53 (n / 4 ^ k) �
 unfolding rootPattern
 pattern-is n k q e f = ap (λ (x : ℕ). x * 2 ^ 52 + wholeRoot 53 (n / 4 ^ x)) e ∙ ap (λ (x : ℕ). k * 2 ^ 52 + x) f
 
-whole : (b d p root rest : ℕ) → IsWidened b d p → LeavesRest (d * (1 + p % 2) * 2 ^ 52) root rest → (p - 52) / 2 * 2 ^ 52 + root ≡ rootPattern (unitsOf b * 2 ^ 1074)
-whole b d p root rest w l =
+is-pattern : (b d p root rest : ℕ) → IsWidened b d p → LeavesRest (d * (1 + p % 2) * 2 ^ 52) root rest → (p - 52) / 2 * 2 ^ 52 + root ≡ rootPattern (unitsOf b * 2 ^ 1074)
+is-pattern b d p root rest w l =
     sym
     (ap rootPattern (w .value)
     ∙ pattern-is (d * 2 ^ p) ((p - 52) / 2) root (wide-places d p (w .full) (w .bound) (w .least))
     (ap (wholeRoot 53) (wide-cut d p (w .full) (w .bound) (w .least)) ∙ sym (is-root (d * (1 + p % 2)) root rest (evened b d p w) l)))
-
-widened-requires : tie.Need-widened-requires
-widened-requires c κs = search needs
-
-add-m : tie.Need-add-m
-add-m c = search needs
 
 mul-m : tie.Need-mul-m
 mul-m c = omega (arith, evened (c .before .args .b) (c .widened .result .digits) (c .widened .result .power) (c .widened .ensures))
@@ -64,33 +54,37 @@ whole-root-requires c κs =
     let p = c .widened .result .power in
     (at-least b d p (c .widened .ensures), evened b d p (c .widened .ensures))
 
-sub-result : tie.Need-sub-result
-sub-result c = search needs
-
-mul-result : tie.Need-mul-result
-mul-result c = search needs
-
-add-result : tie.Need-add-result
-add-result c =
-    let w = c .before .before in
+-- the bound on the root, once it is taken
+short : (c : tie.After-whole-root) → c .whole-root .result .root < 2 ^ 53
+short c =
+    let w = c .before in
     let d = w .widened .result .digits in
     let p = w .widened .result .power in
-    omega (arith, w .widened .ensures .most, root-lt (d * (1 + p % 2)) (c .before .whole-root .result .root) (c .before .whole-root .result .rest) (evened (w .before .args .b) d p (w .widened .ensures)) (c .before .whole-root .ensures))
+    root-lt (d * (1 + p % 2)) (c .whole-root .result .root) (c .whole-root .result .rest) (evened (w .before .args .b) d p (w .widened .ensures)) (c .whole-root .ensures)
+
+cut-down-requires : tie.Need-cut-down-requires
+cut-down-requires c κs = short c
+
+add-result : tie.Need-add-result
+add-result c = omega (arith, c .before .before .widened .ensures .most, short (c .before), c .cut-down .ensures)
 
 returns : tie.Need-returns
 returns c =
-    let w = c .before .before in
-    whole (w .before .args .b) (w .widened .result .digits) (w .widened .result .power) (c .before .whole-root .result .root) (c .before .whole-root .result .rest) (w .widened .ensures) (c .before .whole-root .ensures)
+    let r = c .before in
+    let w = r .before in
+    rw (c .cut-down .ensures)
+    (is-pattern (w .before .args .b) (w .widened .result .digits) (w .widened .result .power) (r .whole-root .result .root) (r .whole-root .result .rest) (w .widened .ensures) (r .whole-root .ensures))
 
 pub root-bits-spec : {M : Type 1} → statement M
 root-bits-spec =
     tie.close
     (tie.spec
-    widened-requires
-    add-m
+    (λ c κs. search needs)
+    (λ c. search needs)
     mul-m
     whole-root-requires
-    sub-result
-    mul-result
+    cut-down-requires
+    (λ c. search needs)
+    (λ c. search needs)
     add-result
     returns)

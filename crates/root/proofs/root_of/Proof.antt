@@ -12,9 +12,6 @@ use Rattle.root.specs.Root.{rootOf}
 use Rattle.root.proofs.AnswerLaws.{nan-answer, no-nan, zero-answer, minus-zero-answer, high-answer, root-no-nan, value-answer}
 use Rattle.root.proofs.root_of.Statement.{statement}
 use Rattle.root.proofs.root_of.Tie as tie
-use Rattle.root.proofs.root_of.Reads as reads
-use Rattle.root.proofs.root_of.Lts as lts
-use Rattle.root.proofs.root_bits.Reads as root-bits-reads
 
 -- what owning an `f64` tells: the format holds it
 held : (c : tie.Start) → T (fits binary64 (c .args .x))

@@ -1,3 +1,4 @@
+-- `root::whole_root` meets its contract: after i turns the root and the rest are those of the leading 2 i digits. Assumes nothing.
 use mathlib.Core.Path.{_≡_, sym, ap, _∙_}
 use mathlib.Core.Logic.{⊎-elim}
 use Prim.Native.Nat.{ℕ, suc, _+_, _-_, _*_, _/_, _%_, _^_, _≤_, _<_}
@@ -9,8 +10,6 @@ use Rattle.root.proofs.WholeLaws.{square-next, square-twice}
 use Rattle.root.specs.Steps.{LeavesRest}
 use Rattle.root.proofs.whole_root.Statement.{statement}
 use Rattle.root.proofs.whole_root.Tie as tie
-use Rattle.root.proofs.whole_root.Reads as reads
-use Rattle.root.proofs.whole_root.Lts as lts
 
 -- After i turns: root and rest are those of the leading 2 i digits of m * 2 ^ 52, taken as 106 digits, and left has the others, at its top.
 record After (m root rest left i : ℕ) : Type 0 where

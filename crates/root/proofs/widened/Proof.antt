@@ -1,4 +1,4 @@
--- `root::widened` meets its contract. Assumes nothing.
+-- `root::widened` meets its contract: a subnormal is moved up by its leading zeros, which leaves its value. Assumes nothing.
 use mathlib.Core.Path.{_≡_, refl, sym, ap, _∙_, subst}
 use Prim.Native.Nat.{ℕ, zero, suc, _+_, _-_, _*_, _/_, _%_, _^_, _≤_, _<_}
 use native.Mathlib.Nat.{le-trans, le-of-eq, lt-of-lt-of-le, lt-of-le-of-lt, mul-assoc, mul-le-mul-right, mul-lt-mul-of-pos-right, mod-eq-of-lt}
@@ -11,8 +11,6 @@ use Rattle.root.specs.Steps.{IsWidened, unitsAt, unitsOf}
 use Rattle.root.proofs.Powers.{pow-lt-back}
 use Rattle.root.proofs.widened.Statement.{statement}
 use Rattle.root.proofs.widened.Tie as tie
-use Rattle.root.proofs.widened.Reads as reads
-use Rattle.root.proofs.widened.Lts as lts
 
 -- a t below 2 ^ 52 with z leading zeros of 64, moved up by z - 11
 record Lifted (t z : ℕ) : Type 0 where

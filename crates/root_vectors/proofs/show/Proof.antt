@@ -1,0 +1,38 @@
+-- `root_vectors::show` meets its contract: the pattern is no NaN's, and no root is a NaN. Assumes nothing.
+use mathlib.Core.Path.{_≡_, sym, ap, _∙_, subst}
+use mathlib.Core.Bool.{Bool, false, not}
+use lib.Dec.{T}
+use lib.Ieee.{binary64, nanBits}
+use lib.Ieee.Bits.{nanBits-above, ofBits-fits}
+use borrow.Author.Needs.{needs}
+use borrow.Author.Tests.{le-ltb}
+use Rattle.root.specs.Answer.{paperAnswer}
+use Rattle.root.proofs.AnswerLaws.{answer-is-root, root-number}
+use Rattle.root_vectors.proofs.show.Statement.{statement}
+use Rattle.root_vectors.proofs.show.Tie as tie
+
+float-from-bits-root : tie.Need-float-from-bits-root
+float-from-bits-root c =
+    subst (λ (t : Bool). T (not t)) (sym (nanBits-above binary64 (c .before .args .b) ∙ le-ltb _ _ (c .if1 .left))) tt
+
+float-to-bits-print-hex : tie.Need-float-to-bits-print-hex
+float-to-bits-print-hex c =
+    root-number _ _ (answer-is-root _ _ (ofBits-fits binary64 (c .before .before .before .before .before .args .b)) (sym (ap paperAnswer (c .before .answer .given .1)) ∙ c .before .before .before .root .ensures))
+
+pub show-spec : {M : Type 1} → statement M
+show-spec =
+    tie.close
+    (tie.spec
+    (λ c. search needs)
+    float-from-bits-root
+    (λ c κs. search needs)
+    (λ c. search needs)
+    float-to-bits-print-hex
+    (λ c κs. search needs)
+    (λ c. search needs)
+    (λ c κs. search needs)
+    (λ c. search needs)
+    (λ c. search needs)
+    (λ c κs. search needs)
+    (λ c. search needs)
+    (λ c. search needs))
