@@ -9,7 +9,7 @@ ghost use Rattle.fields.specs.Real.{zero64};
 ghost use Rattle.loops.specs.Loops.{fill, allBelow};
 ghost use Rattle.job.specs.Format.{rIn};
 ghost use Rattle.job.specs.Questions.{initialFits};
-ghost use Rattle.recurrence.specs.Scan.{faultOf};
+ghost use Rattle.recurrence.specs.Scan.{faultOf, acceptableAt};
 ghost use Rattle.rows.specs.Rows as row;
 ghost use Rattle.rows.specs.Faults as scan;
 ghost use Rattle.rows.specs.Sweep as pipe;
@@ -115,19 +115,17 @@ pub fn faults(heads: &[f64], flows: &[f64], initial: &[u8], n: usize) -> u64
     bad
 }
 
-// What section s shows: 40 before 41.
-fn fault_at(heads: &[f64], flows: &[f64], initial: &[u8], s: usize) -> Scan
-    requires { ⌜ (s < length (now heads)) × (s < length (now flows)) × (s * 24 + 24 ≤ length (now initial)) × (initialFits (now initial) ≡ true) ⌝ }
-    ensures { λ r. ⌜ scan.foundFault r ≡ scan.faultAt (now (initial .entry)) (now (heads .entry)) (now (flows .entry)) s ⌝ }
+// What section s shows, by its head, flow and floor: 40 before 41.
+fn fault_of(head: f64, flow: f64, floor: f64, s: usize) -> Scan
+    ensures { λ r. ⌜ scan.foundFault r ≡ faultOf floor s (scan.headFlowPoint head flow) ⌝ }
 {
-    let head = heads[s];
     if !fields::is_finite(head) {
         return Scan::NotFinite(s);
     }
-    if !fields::is_finite(flows[s]) {
+    if !fields::is_finite(flow) {
         return Scan::NotFinite(s);
     }
-    if head < floor_at(initial, s) {
+    if head < floor {
         return Scan::Parted(s);
     }
     Scan::Sound
@@ -140,7 +138,7 @@ pub fn first_fault(heads: &[f64], flows: &[f64], initial: &[u8], n: usize) -> Sc
 {
     let mut s = 0;
     while s < n {
-        let found = fault_at(heads, flows, initial, s);
+        let found = fault_of(heads[s], flows[s], floor_at(initial, s), s);
         match found {
             Scan::Sound => {}
             Scan::NotFinite(_) => return found,
@@ -164,33 +162,23 @@ pub fn scan(heads: &[f64], flows: &[f64], initial: &[u8], n: usize) -> Scan
 
 // ---- question 22
 
-// Question 22 at section s.
-fn acceptable_at(
-    heads: &[f64],
-    flows: &[f64],
-    highest: &[f64],
-    lowest: &[f64],
-    initial: &[u8],
-    s: usize,
-) -> bool
-    requires { ⌜ scan.Covered (now initial) (s + 1) (now heads) (now flows) ⌝ }
-    requires { ⌜ (s < length (now highest)) × (s < length (now lowest)) ⌝ }
-    ensures { λ r. ⌜ r ≡ scan.acceptableIn (now (initial .entry)) (now (heads .entry)) (now (flows .entry)) (now (highest .entry)) (now (lowest .entry)) s ⌝ }
+// Question 22 at one section, by what it holds and its floor.
+fn acceptable_at(head: f64, flow: f64, highest: f64, lowest: f64, floor: f64) -> bool
+    ensures { λ r. ⌜ r ≡ acceptableAt floor record { head = head; flow = flow; highest = highest; lowest = lowest } ⌝ }
 {
-    let head = heads[s];
     if !fields::is_finite(head) {
         return false;
     }
-    if !fields::is_finite(flows[s]) {
+    if !fields::is_finite(flow) {
         return false;
     }
-    if !fields::is_finite(highest[s]) {
+    if !fields::is_finite(highest) {
         return false;
     }
-    if !fields::is_finite(lowest[s]) {
+    if !fields::is_finite(lowest) {
         return false;
     }
-    !(head < floor_at(initial, s))
+    !(head < floor)
 }
 
 // Question 22 over the first n sections.
@@ -208,7 +196,13 @@ pub fn acceptable(
 {
     let mut s = 0;
     while s < n {
-        if !acceptable_at(heads, flows, highest, lowest, initial, s) {
+        if !acceptable_at(
+            heads[s],
+            flows[s],
+            highest[s],
+            lowest[s],
+            floor_at(initial, s),
+        ) {
             return false;
         }
         s += 1;
