@@ -95,7 +95,7 @@ fn floor_at(initial: &[u8], s: usize) -> f64
 
 // 1 for a section with a fault, else 0, without a branch: x - x is +0 where x is finite, else a NaN.
 fn unsound(head: f64, flow: f64, floor: f64) -> u64
-    ensures { λ r. ⌜ ((s : ℕ) → r ≡ scan.counted (faultOf floor s (scan.headFlowPoint head flow))) ⌝ }
+    ensures { λ r. ⌜ (r ≤ 1) × ((s : ℕ) → r ≡ scan.counted (faultOf floor s (scan.headFlowPoint head flow))) ⌝ }
 {
     let sound = (head - head == flow - flow) & !(head < floor);
     if sound { 0 } else { 1 }
