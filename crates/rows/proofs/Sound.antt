@@ -53,12 +53,13 @@ fault-read initial heads flows s a b e = rw (e, read heads s a, read flows s b)
 
 -- question 22 by what the code reads at section s
 pub acceptable-read :
-    (initial : List ℕ) (heads flows highest lowest : List Float) (s : ℕ) {floor : Float}
+    (initial : List ℕ) (heads flows highest lowest : List Float) (s : ℕ) {floor : Float} {r : Bool}
     → s < length heads → s < length flows → s < length highest → s < length lowest → floor ≡ floorIn initial s
-    → acceptableAt floor record { head = getD heads s nan; flow = getD flows s nan; highest = getD highest s nan; lowest = getD lowest s nan }
-    ≡ acceptableIn initial heads flows highest lowest s
+    → r ≡ acceptableAt floor record { head = getD heads s nan; flow = getD flows s nan; highest = getD highest s nan; lowest = getD lowest s nan }
+    → r ≡ acceptableIn initial heads flows highest lowest s
 unfolding acceptableIn
-acceptable-read initial heads flows highest lowest s a b c d e = rw (e, read heads s a, read flows s b, read highest s c, read lowest s d)
+acceptable-read initial heads flows highest lowest s a b c d e h =
+    rw (← e, ← read heads s a, ← read flows s b, ← read highest s c, ← read lowest s d) h
 
 -- ---- a loop that looks for the first fault
 

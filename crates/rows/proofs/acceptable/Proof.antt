@@ -1,5 +1,5 @@
 -- `rows::acceptable` meets its contract: the sections before this one are acceptable. Assumes nothing.
-use mathlib.Core.Path.{_≡_, _∙_}
+use mathlib.Core.Path.{_≡_}
 use Prim.Native.Nat.{_-_}
 use native.Mathlib.Omega.{arith}
 use denote.Ref.{now}
@@ -29,8 +29,8 @@ asked :
 asked c =
     let here = c .before .before .before .before .before .before .before in
     let a = here .before .before .before .before .before .before .args in
-    c .acceptable-at .ensures
-    ∙ acceptable-read (now (a .initial)) (now (a .heads)) (now (a .flows)) (now (a .highest)) (now (a .lowest)) (here .loop .s) (omega arith) (omega arith) (omega arith) (omega arith) (c .before .floor-at .ensures)
+    acceptable-read (now (a .initial)) (now (a .heads)) (now (a .flows)) (now (a .highest)) (now (a .lowest)) (here .loop .s)
+    (omega arith) (omega arith) (omega arith) (omega arith) (c .before .floor-at .ensures) (c .acceptable-at .ensures)
 
 returns : tie.Need-returns Inv-loop μ-loop
 returns c = passing-stop _ (omega arith) (asked (c .before)) (not-true _ (c .if1 .taken))
