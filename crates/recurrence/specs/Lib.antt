@@ -2,7 +2,10 @@ pub mod State
 pub mod Step
 pub mod Scan
 pub mod Run
-pub mod Reader
 pub mod Calls
 pub mod Paths
 pub mod Demand
+pub mod Lent
+pub mod Figures
+pub mod OwnFigures
+pub mod Sharp
