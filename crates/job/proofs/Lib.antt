@@ -1,1 +1,8 @@
 pub mod Figures
+pub mod Listed
+pub mod Laid
+pub mod Places
+pub mod FirstNo
+pub mod Tables
+pub mod NodeLaws
+pub mod SectionLaws
