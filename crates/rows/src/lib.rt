@@ -1,6 +1,6 @@
 // Loops over lent rows of f64 numbers, one number a section: the kernels of start and run-on.
 ghost use mathlib.Core.Path.{_≡_};
-ghost use mathlib.Core.Bool.{true};
+ghost use mathlib.Core.Bool.{true, _&&_};
 ghost use Prim.Native.Nat.{ℕ, _+_, _-_, _*_, _<_, _≤_};
 ghost use lib.Dec.{eqb};
 ghost use lib.ListN.{length};
@@ -38,10 +38,10 @@ pub fn clear_row(dst: &mut [f64], n: usize)
     requires { ⌜ n ≤ length (now dst) ⌝ }
     ensures { λ _. ⌜ now (dst .exit) ≡ fill (λ (s : ℕ). zero64) (now (dst .entry)) 0 n ⌝ }
 {
-    let mut i = 0;
-    while i < n {
-        dst[i] = 0.0;
-        i += 1;
+    let mut at = 0;
+    while at < n {
+        dst[at] = 0.0;
+        at += 1;
     }
 }
 
@@ -93,11 +93,19 @@ fn floor_at(initial: &[u8], s: usize) -> f64
     fields::f64_at(initial, s * 24 + 16)
 }
 
-// 1 for a section with a fault, else 0, without a branch: x - x is +0 where x is finite, else a NaN.
+// Whether two numbers are finite, without a branch: x - x is +0 where x is finite, else a NaN, which
+// equals nothing.
+fn both_finite(x: f64, y: f64) -> bool
+    ensures { λ r. ⌜ r ≡ finite x && finite y ⌝ }
+{
+    x - x == y - y
+}
+
+// 1 for a section with a fault, else 0, without a branch.
 fn unsound(head: f64, flow: f64, floor: f64) -> u64
     ensures { λ r. ⌜ (r ≤ 1) × ((s : ℕ) → r ≡ scan.counted (faultOf floor s (scan.headFlowPoint head flow))) ⌝ }
 {
-    let sound = (head - head == flow - flow) & !(head < floor);
+    let sound = both_finite(head, flow) & !(head < floor);
     if sound { 0 } else { 1 }
 }
 
@@ -119,10 +127,8 @@ pub fn faults(heads: &[f64], flows: &[f64], initial: &[u8], n: usize) -> u64
 fn fault_of(head: f64, flow: f64, floor: f64, s: usize) -> Scan
     ensures { λ r. ⌜ scan.foundFault r ≡ faultOf floor s (scan.headFlowPoint head flow) ⌝ }
 {
-    if !fields::is_finite(head) {
-        return Scan::NotFinite(s);
-    }
-    if !fields::is_finite(flow) {
+    let finite = both_finite(head, flow);
+    if !finite {
         return Scan::NotFinite(s);
     }
     if head < floor {
@@ -166,16 +172,10 @@ pub fn scan(heads: &[f64], flows: &[f64], initial: &[u8], n: usize) -> Scan
 fn acceptable_at(head: f64, flow: f64, highest: f64, lowest: f64, floor: f64) -> bool
     ensures { λ r. ⌜ r ≡ acceptableAt floor record { head = head; flow = flow; highest = highest; lowest = lowest } ⌝ }
 {
-    if !fields::is_finite(head) {
+    if !both_finite(head, flow) {
         return false;
     }
-    if !fields::is_finite(flow) {
-        return false;
-    }
-    if !fields::is_finite(highest) {
-        return false;
-    }
-    if !fields::is_finite(lowest) {
+    if !both_finite(highest, lowest) {
         return false;
     }
     !(head < floor)

@@ -1,68 +1,37 @@
 -- `rows::acceptable_at` meets its contract, at each return by the tests that led there. Assumes nothing.
-use mathlib.Core.Path.{sym, _∙_}
+use mathlib.Core.Path.{_≡_, refl, sym, ap, _∙_}
+use mathlib.Core.Bool.{Bool, true, false, _&&_, not}
+use lib.Ieee.{Float, lt}
+use lib.Ieee.Scale.{finite}
 use borrow.Author.Needs.{needs}
 use borrow.Author.Tests.{not-true, not-false}
+use Rattle.recurrence.specs.State.{Point}
 use Rattle.recurrence.specs.Scan.{acceptableAt}
 use Rattle.rows.proofs.acceptable_at.Statement.{statement}
 use Rattle.rows.proofs.acceptable_at.Tie as tie
 
-returns : tie.Need-returns
+two-by-two : (a b c d e : Bool) → (a && b) && ((c && d) && e) ≡ a && b && c && d && e
+two-by-two true true c d e = refl
+two-by-two true false c d e = refl
+two-by-two false b c d e = refl
+
+-- question 22 asks of head and flow, and of the two envelopes, two by two
+asked : (floor : Float) (p : Point) → (finite (p .head) && finite (p .flow)) && ((finite (p .highest) && finite (p .lowest)) && not (lt (p .head) floor)) ≡ acceptableAt floor p
 unfolding acceptableAt
-returns c = rw (sym (c .before .is-finite .ensures) ∙ not-true _ (c .if1 .taken))
+asked floor p = two-by-two (finite (p .head)) (finite (p .flow)) (finite (p .highest)) (finite (p .lowest)) (not (lt (p .head) floor))
+
+returns : tie.Need-returns
+returns c = rw (← asked, sym (c .before .both-finite .ensures) ∙ not-true _ (c .if1 .taken))
 
 returns-2 : tie.Need-returns-2
-unfolding acceptableAt
 returns-2 c =
-    let head = c .before .before in
-    rw (sym (head .before .is-finite .ensures) ∙ not-false _ (head .if1 .left), sym (c .before .is-finite2 .ensures) ∙ not-true _ (c .if2 .taken))
+    let first = c .before .before in
+    rw (← asked, sym (first .before .both-finite .ensures) ∙ not-false _ (first .if1 .left), sym (c .before .both-finite2 .ensures) ∙ not-true _ (c .if2 .taken))
 
 returns-3 : tie.Need-returns-3
-unfolding acceptableAt
 returns-3 c =
-    let flow = c .before .before in
-    let head = flow .before .before in
-    rw (
-      sym (head .before .is-finite .ensures) ∙ not-false _ (head .if1 .left),
-      sym (flow .before .is-finite2 .ensures) ∙ not-false _ (flow .if2 .left),
-      sym (c .before .is-finite3 .ensures) ∙ not-true _ (c .if3 .taken),
-    )
-
-returns-4 : tie.Need-returns-4
-unfolding acceptableAt
-returns-4 c =
-    let highest = c .before .before in
-    let flow = highest .before .before in
-    let head = flow .before .before in
-    rw (
-      sym (head .before .is-finite .ensures) ∙ not-false _ (head .if1 .left),
-      sym (flow .before .is-finite2 .ensures) ∙ not-false _ (flow .if2 .left),
-      sym (highest .before .is-finite3 .ensures) ∙ not-false _ (highest .if3 .left),
-      sym (c .before .is-finite4 .ensures) ∙ not-true _ (c .if4 .taken),
-    )
-
-returns-5 : tie.Need-returns-5
-unfolding acceptableAt
-returns-5 c =
-    let highest = c .before .before in
-    let flow = highest .before .before in
-    let head = flow .before .before in
-    rw (
-      sym (head .before .is-finite .ensures) ∙ not-false _ (head .if1 .left),
-      sym (flow .before .is-finite2 .ensures) ∙ not-false _ (flow .if2 .left),
-      sym (highest .before .is-finite3 .ensures) ∙ not-false _ (highest .if3 .left),
-      sym (c .before .is-finite4 .ensures) ∙ not-false _ (c .if4 .left),
-    )
+    let first = c .before .before in
+    rw (← asked, sym (first .before .both-finite .ensures) ∙ not-false _ (first .if1 .left), sym (c .before .both-finite2 .ensures) ∙ not-false _ (c .if2 .left))
 
 pub acceptable-at-spec : {M : Type 1} → statement M
-acceptable-at-spec =
-    tie.close
-    (tie.spec
-    (λ c κs. search needs)
-    returns
-    (λ c κs. search needs)
-    returns-2
-    (λ c κs. search needs)
-    returns-3
-    (λ c κs. search needs)
-    returns-4
-    returns-5)
+acceptable-at-spec = tie.close (tie.spec (λ c κs. search needs) returns (λ c κs. search needs) returns-2 returns-3)

@@ -9,10 +9,10 @@ use Rattle.rows.proofs.clear_row.Statement.{statement}
 use Rattle.rows.proofs.clear_row.Tie as tie
 
 abbrev Inv-loop : tie.InvT-loop
-Inv-loop dst₀ n i₀ dst i = Upto (λ (s : ℕ). zero64) dst₀ 0 n i dst
+Inv-loop dst₀ n at₀ dst at = Upto (λ (s : ℕ). zero64) dst₀ 0 n at dst
 
 abbrev μ-loop : tie.MeasureT-loop
-μ-loop dst₀ n i₀ dst i = n - i
+μ-loop dst₀ n at₀ dst at = n - at
 
 loop-holds : tie.Need-loop-holds Inv-loop μ-loop
 loop-holds c = upto-none

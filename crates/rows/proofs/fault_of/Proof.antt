@@ -9,27 +9,15 @@ use Rattle.rows.proofs.fault_of.Tie as tie
 
 returns : tie.Need-returns
 unfolding foundFault faultOf
-returns c = rw (sym (c .before .is-finite .ensures) ∙ not-true _ (c .if1 .taken))
+returns c = rw (sym (c .before .both-finite .ensures) ∙ not-true _ (c .if1 .taken))
 
 returns-2 : tie.Need-returns-2
 unfolding foundFault faultOf
-returns-2 c =
-    let head = c .before .before in
-    rw (sym (head .before .is-finite .ensures) ∙ not-false _ (head .if1 .left), sym (c .before .is-finite2 .ensures) ∙ not-true _ (c .if2 .taken))
+returns-2 c = rw (sym (c .before .before .both-finite .ensures) ∙ not-false _ (c .before .if1 .left), c .if2 .taken)
 
 returns-3 : tie.Need-returns-3
 unfolding foundFault faultOf
-returns-3 c =
-    let flow = c .before in
-    let head = flow .before .before in
-    rw (sym (head .before .is-finite .ensures) ∙ not-false _ (head .if1 .left), sym (flow .before .is-finite2 .ensures) ∙ not-false _ (flow .if2 .left), c .if3 .taken)
-
-returns-4 : tie.Need-returns-4
-unfolding foundFault faultOf
-returns-4 c =
-    let flow = c .before in
-    let head = flow .before .before in
-    rw (sym (head .before .is-finite .ensures) ∙ not-false _ (head .if1 .left), sym (flow .before .is-finite2 .ensures) ∙ not-false _ (flow .if2 .left), c .if3 .left)
+returns-3 c = rw (sym (c .before .before .both-finite .ensures) ∙ not-false _ (c .before .if1 .left), c .if2 .left)
 
 pub fault-of-spec : {M : Type 1} → statement M
-fault-of-spec = tie.close (tie.spec (λ c κs. search needs) returns (λ c κs. search needs) returns-2 returns-3 returns-4)
+fault-of-spec = tie.close (tie.spec (λ c κs. search needs) returns returns-2 returns-3)
