@@ -24,9 +24,8 @@ returns c =
       read (now (a .flows)) (a .i) (omega arith),
       read (now (a .heads)) (a .i + 2) (omega arith),
       read (now (a .flows)) (a .i + 2) (omega arith),
-      add-one (a .i),
-      add-two (a .i),
     )
+    (simp (add-one, add-two))
 
 pub inner-at-spec : {M : Type 1} → statement M
 inner-at-spec =
