@@ -109,7 +109,8 @@ fn unsound(head: f64, flow: f64, floor: f64) -> u64
     if sound { 0 } else { 1 }
 }
 
-// How many of the first n sections have a fault: counted, so that the loop has no branch.
+// 0 exactly where none of the first n sections has a fault: faults are counted, so that the loop has
+// no branch.
 pub fn faults(heads: &[f64], flows: &[f64], initial: &[u8], n: usize) -> u64
     requires { ⌜ scan.Covered (now initial) n (now heads) (now flows) ⌝ }
     ensures { λ r. ⌜ eqb r 0 ≡ allBelow (scan.soundAt (now (initial .entry)) (now (heads .entry)) (now (flows .entry))) n ⌝ }

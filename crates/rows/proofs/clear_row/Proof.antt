@@ -14,17 +14,8 @@ Inv-loop dst₀ n at₀ dst at = Upto (λ (s : ℕ). zero64) dst₀ 0 n at dst
 abbrev μ-loop : tie.MeasureT-loop
 μ-loop dst₀ n at₀ dst at = n - at
 
-loop-holds : tie.Need-loop-holds Inv-loop μ-loop
-loop-holds c = upto-none
-
 loop-again : tie.Need-loop-again Inv-loop μ-loop
 loop-again c = upto-step (c .before .loop .inv) (omega arith) (omega arith) refl
-
-same-length : tie.Need-same-length Inv-loop μ-loop
-same-length c = c .before .loop .inv .long
-
-returns : tie.Need-returns Inv-loop μ-loop
-returns c = upto-done (c .before .loop .inv) (c .loop-test .left)
 
 pub clear-row-spec : {M : Type 1} → statement M
 clear-row-spec =
@@ -32,11 +23,11 @@ clear-row-spec =
     (tie.spec
     Inv-loop
     μ-loop
-    loop-holds
+    (λ c. upto-none)
     (λ c. search needs)
     (λ c. search needs)
     (λ c. search needs)
     (λ c. search needs)
     loop-again
-    same-length
-    returns)
+    (λ c. c .before .loop .inv .long)
+    (λ c. upto-done (c .before .loop .inv) (c .loop-test .left)))

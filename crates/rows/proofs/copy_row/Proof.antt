@@ -15,19 +15,10 @@ Inv-loop src dst₀ n i₀ dst i = Upto (entry src) dst₀ 0 n i dst
 abbrev μ-loop : tie.MeasureT-loop
 μ-loop src dst₀ n i₀ dst i = n - i
 
-loop-holds : tie.Need-loop-holds Inv-loop μ-loop
-loop-holds c = upto-none
-
 loop-again : tie.Need-loop-again Inv-loop μ-loop
 loop-again c =
     let here = c .before .before in
     upto-step (here .loop .inv) (omega arith) (omega arith) (read (now (here .before .args .src)) (here .loop .i) (omega arith))
-
-same-length : tie.Need-same-length Inv-loop μ-loop
-same-length c = c .before .loop .inv .long
-
-returns : tie.Need-returns Inv-loop μ-loop
-returns c = upto-done (c .before .loop .inv) (c .loop-test .left)
 
 pub copy-row-spec : {M : Type 1} → statement M
 copy-row-spec =
@@ -35,7 +26,7 @@ copy-row-spec =
     (tie.spec
     Inv-loop
     μ-loop
-    loop-holds
+    (λ c. upto-none)
     (λ c. search needs)
     (λ c. search needs)
     (λ c. search needs)
@@ -43,5 +34,5 @@ copy-row-spec =
     (λ c. search needs)
     (λ c. search needs)
     loop-again
-    same-length
-    returns)
+    (λ c. c .before .loop .inv .long)
+    (λ c. upto-done (c .before .loop .inv) (c .loop-test .left)))

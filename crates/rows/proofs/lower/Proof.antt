@@ -15,20 +15,11 @@ Inv-loop lows₀ heads n i₀ lows i = Upto (loweredAt lows₀ heads) lows₀ 0 
 abbrev μ-loop : tie.MeasureT-loop
 μ-loop lows₀ heads n i₀ lows i = n - i
 
-loop-holds : tie.Need-loop-holds Inv-loop μ-loop
-loop-holds c = upto-none
-
 loop-again : tie.Need-loop-again Inv-loop μ-loop
 unfolding loweredAt
 loop-again c =
     let here = c .before .before .before .before in
     own-step lowered (now (here .before .before .before .args .heads)) (here .loop .inv) (omega arith) (omega arith) (omega arith) (c .lesser .ensures)
-
-same-length : tie.Need-same-length Inv-loop μ-loop
-same-length c = c .before .loop .inv .long
-
-returns : tie.Need-returns Inv-loop μ-loop
-returns c = upto-done (c .before .loop .inv) (c .loop-test .left)
 
 pub lower-spec : {M : Type 1} → statement M
 lower-spec =
@@ -36,7 +27,7 @@ lower-spec =
     (tie.spec
     Inv-loop
     μ-loop
-    loop-holds
+    (λ c. upto-none)
     (λ c. search needs)
     (λ c. search needs)
     (λ c. search needs)
@@ -47,5 +38,5 @@ lower-spec =
     (λ c. search needs)
     (λ c. search needs)
     loop-again
-    same-length
-    returns)
+    (λ c. c .before .loop .inv .long)
+    (λ c. upto-done (c .before .loop .inv) (c .loop-test .left)))

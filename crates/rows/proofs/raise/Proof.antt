@@ -15,20 +15,11 @@ Inv-loop highs₀ heads n i₀ highs i = Upto (raisedAt highs₀ heads) highs₀
 abbrev μ-loop : tie.MeasureT-loop
 μ-loop highs₀ heads n i₀ highs i = n - i
 
-loop-holds : tie.Need-loop-holds Inv-loop μ-loop
-loop-holds c = upto-none
-
 loop-again : tie.Need-loop-again Inv-loop μ-loop
 unfolding raisedAt
 loop-again c =
     let here = c .before .before .before .before in
     own-step raised (now (here .before .before .before .args .heads)) (here .loop .inv) (omega arith) (omega arith) (omega arith) (c .greater .ensures)
-
-same-length : tie.Need-same-length Inv-loop μ-loop
-same-length c = c .before .loop .inv .long
-
-returns : tie.Need-returns Inv-loop μ-loop
-returns c = upto-done (c .before .loop .inv) (c .loop-test .left)
 
 pub raise-spec : {M : Type 1} → statement M
 raise-spec =
@@ -36,7 +27,7 @@ raise-spec =
     (tie.spec
     Inv-loop
     μ-loop
-    loop-holds
+    (λ c. upto-none)
     (λ c. search needs)
     (λ c. search needs)
     (λ c. search needs)
@@ -47,5 +38,5 @@ raise-spec =
     (λ c. search needs)
     (λ c. search needs)
     loop-again
-    same-length
-    returns)
+    (λ c. c .before .loop .inv .long)
+    (λ c. upto-done (c .before .loop .inv) (c .loop-test .left)))
