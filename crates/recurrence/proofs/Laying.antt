@@ -11,6 +11,7 @@ use lib.ListN.{getElem?}
 use borrow.Author.Tests.{leb-true, le-leb, lt-leb}
 use Rattle.job.specs.Job.{Job, Pipe, Laid, laidFrom, laid, sectionsOf, sections}
 use Rattle.recurrence.specs.Step.{Place, place, nowhere, located}
+use Rattle.recurrence.proofs.Tests.{both}
 
 -- section s stands at offset i of the laid pipe l
 pub record Found (ls : List Laid) (s : ℕ) (l : Laid) (i : ℕ) : Type 0 where
@@ -24,10 +25,6 @@ FoundAt ls s nowhere = Unit {0}
 FoundAt ls s (place l i) = Found ls s l i
 
 -- ---- where a section is found, it stands
-
-both : (a b : Bool) → a && b ≡ true → (a ≡ true) × (b ≡ true)
-both true b e = (refl, e)
-both false b e = (e, cc)
 
 pub located-found : (ls : List Laid) (s : ℕ) → FoundAt ls s (located ls s)
 unfolding located

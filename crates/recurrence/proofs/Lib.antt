@@ -1,8 +1,11 @@
 pub mod Tests
 pub mod Listed
 pub mod Laying
+pub mod Acceptance
 pub mod Cone
 pub mod Runs
 pub mod Agree
 pub mod Stops
 pub mod Theorem
+pub mod Tied
+pub mod InRows

@@ -3,12 +3,14 @@ use mathlib.Core.Path.{_≡_, refl}
 use mathlib.Core.List.{List, [], _∷_}
 use Prim.Native.Nat.{ℕ, zero, suc, _+_, _<_}
 use native.Mathlib.Omega.{arith}
-use Rattle.job.specs.Job.{Job}
+use lib.ListN.{length}
+use Rattle.job.specs.Job.{Job, laid, sections}
 use Rattle.recurrence.specs.State.{State, startState}
-use Rattle.recurrence.specs.Step.{advanced}
+use Rattle.recurrence.specs.Step.{inputs, newPoint, advanced}
 use Rattle.recurrence.specs.Scan.{Fault, none, fault, scan, Outcome, finished, stopped, judged, step, acceptable}
 use Rattle.recurrence.specs.Run.{Run, Result, refused, ran, Ending, completed, stop, ask, Call, onward, steps, withinLimit, runOn, started, leftBy, playedFrom, played, oneMore, finishedOf, ifRan, stepsBy, stepsDoneFrom, stepsDone}
 use Rattle.recurrence.proofs.Tests.{cond-all}
+use Rattle.recurrence.proofs.Listed.{length-listed}
 
 -- ---- the state after m finished steps
 
@@ -24,22 +26,27 @@ finished-advanced j n old st e = go (scan j (advanced j n old)) e
     go none e = cc
     go (fault c s) e = cc
 
+finished-sized : (j : Job) (n : ℕ) (old st : State) → step j n old ≡ finished st → length (st .points) ≡ sections j
+unfolding advanced
+finished-sized j n old st e = rw (← (finished-advanced j n old st e)) (length-listed (sections j) (newPoint (laid j) (inputs j n) old))
+
 abbrev Stands : Job → Run → Type 0
 Stands j r = Reached j (r .done) (r .state)
 
 -- ---- the steps of a call
 
--- what steps come to: they ran, from one reached state to another, and left as many more steps done as finished
+-- what steps come to: they ran, from one reached state to another, and left as many more steps done as finished; and a point for each section
 pub record Ran (j : Job) (N m : ℕ) (st : State) : Type 0 where
   pub run : Run
   pub ending : Ending
   pub is : steps j N m st ≡ ran run ending
   pub done : run .done ≡ m + finishedOf j N m st
   pub stands : Reached j m st → Stands j run
+  pub sized : length (st .points) ≡ sections j → length (run .state .points) ≡ sections j
 
 pub steps-ran : (j : Job) (N m : ℕ) (st : State) → Ran j N m st
 unfolding steps onward finishedOf oneMore
-steps-ran j zero m st = record { run = record { done = m; state = st }; ending = completed; is = refl; done = omega arith; stands = λ h. h }
+steps-ran j zero m st = record { run = record { done = m; state = st }; ending = completed; is = refl; done = omega arith; stands = λ h. h; sized = λ h. h }
 steps-ran j (suc N) m st = go (step j (suc m) st) refl (λ new. steps-ran j N (suc m) new)
   where
     go : (o : Outcome) → step j (suc m) st ≡ o → ((new : State) → Ran j N (suc m) new) → Ran j (suc N) m st
@@ -52,30 +59,31 @@ steps-ran j (suc N) m st = go (step j (suc m) st) refl (λ new. steps-ran j N (s
           is = rw e (x .is);
           done = rw e (omega arith);
           stands = λ u. x .stands (st, u, e);
+          sized = λ _. x .sized (finished-sized j (suc m) st new e);
         }
-    go (stopped c s) e h = record { run = record { done = m; state = st }; ending = stop c s; is = rw e; done = rw e (omega arith); stands = λ u. u }
+    go (stopped c s) e h = record { run = record { done = m; state = st }; ending = stop c s; is = rw e; done = rw e (omega arith); stands = λ u. u; sized = λ u. u }
 
 -- a call ran its steps or was refused, by a number below those of the stops
 pub run-on-all : (P : Result → Type 0) (j : Job) (c : Call) (r : Run)
-    → P (steps j (c .count) (r .done) (r .state)) → ((q : ℕ) → q < 40 → P (refused q)) → P (runOn j c r)
+    → P (steps j (c .count) (r .done) (r .state)) → ((q : ℕ) → 0 < q → q < 40 → P (refused q)) → P (runOn j c r)
 unfolding runOn ask
 run-on-all P j c r h k =
     cond-all P (c .enough)
-    (cond-all P (withinLimit (r .done) (c .count)) (cond-all P (acceptable j (r .state)) h (k 22 (omega arith))) (k 21 (omega arith)))
-    (k 20 (omega arith))
+    (cond-all P (withinLimit (r .done) (c .count)) (cond-all P (acceptable j (r .state)) h (k 22 (omega arith) (omega arith))) (k 21 (omega arith) (omega arith)))
+    (k 20 (omega arith) (omega arith))
 
 call-stands : (j : Job) (c : Call) (r : Run) → Stands j r → Stands j (leftBy r (runOn j c r))
 unfolding leftBy
 call-stands j c r h =
     let x = steps-ran j (c .count) (r .done) (r .state) in
-    run-on-all (λ y. Stands j (leftBy r y)) j c r (rw (x .is) (x .stands h)) (λ q _. h)
+    run-on-all (λ y. Stands j (leftBy r y)) j c r (rw (x .is) (x .stands h)) (λ q _ _. h)
 
 pub call-counts : (j : Job) (c : Call) (r : Run) → leftBy r (runOn j c r) .done ≡ r .done + stepsBy j c r
 unfolding leftBy stepsBy ifRan
 call-counts j c r =
     let n = finishedOf j (c .count) (r .done) (r .state) in
     let x = steps-ran j (c .count) (r .done) (r .state) in
-    run-on-all (λ y. leftBy r y .done ≡ r .done + ifRan y n) j c r (rw (x .is) (x .done)) (λ q _. omega arith)
+    run-on-all (λ y. leftBy r y .done ≡ r .done + ifRan y n) j c r (rw (x .is) (x .done)) (λ q _ _. omega arith)
 
 -- ---- lists of calls
 

@@ -27,9 +27,9 @@ unfolding Tells leftBy answerOf stopAnswer
 ran-tells r c m s new completed q = omega (arith, ap (λ (a : Answer). a .number) q, cause-high c)
 ran-tells r c m s new (stop d t) q = ap (λ (a : Answer). a .steps) q
 
-refused-tells : (r : Run) (c : Cause) (m s q : ℕ) → q < 40 → Tells r c m s (refused q)
+refused-tells : (r : Run) (c : Cause) (m s q : ℕ) → 0 < q → q < 40 → Tells r c m s (refused q)
 unfolding Tells answerOf stopAnswer
-refused-tells r c m s q l e = absurd (omega (arith, ap (λ (a : Answer). a .number) e, cause-high c))
+refused-tells r c m s q _ l e = absurd (omega (arith, ap (λ (a : Answer). a .number) e, cause-high c))
 
 call-tells : (j : Job) (b : Call) (r : Run) (c : Cause) (m s : ℕ) → Tells r c m s (runOn j b r)
 call-tells j b r c m s =

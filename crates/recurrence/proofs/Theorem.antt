@@ -8,13 +8,15 @@ use native.Mathlib.Omega.{arith}
 use lib.ListN.{getElem?}
 use Rattle.loops.specs.Loops.{allBelow}
 use Rattle.job.specs.Job.{Job, Pipe, Laid, Initial, laid, sections, sectionsOf, nodeAt, initialAt, frictionAt, floorAt, scheduled, withValue}
-use Rattle.recurrence.specs.State.{State, pointAt, listed, startPoint, startState}
+use Rattle.job.specs.Format.{listed, jobOf}
+use Rattle.recurrence.specs.State.{State, pointAt, startPoint, startState}
 use Rattle.recurrence.specs.Step.{nodeNow, advanced}
 use Rattle.recurrence.specs.Scan.{scan, step, acceptable}
 use Rattle.recurrence.specs.Run.{Call, Run, started, played, answers, stepsDone}
 use Rattle.recurrence.specs.Paths.{EndAt, Beside, down, up, PathTo, begins, along, across, AtLeast, NoPath}
-use Rattle.recurrence.specs.Demand.{BothDone, AlikeBut, AlikeBefore, Carried}
+use Rattle.recurrence.specs.Demand.{BothDone, AlikeBut, AlikeBefore, Carried, Demand3}
 use Rattle.recurrence.proofs.Laying.{laid-whole}
+use Rattle.recurrence.proofs.Acceptance.{accepted-reaches}
 use Rattle.recurrence.proofs.Runs.{played-stands, played-counts}
 use Rattle.recurrence.proofs.Agree.{Spreads, Closed, advanced-same, agree}
 use Rattle.recurrence.proofs.Stops.{answers-same}
@@ -127,3 +129,6 @@ wave-carries A B okA okB x k pos al be calls = record {
 
     same-rest : (u : State) → acceptable A u ≡ acceptable B u
     same-rest = acceptable-alike A B x k al be
+
+pub demand-3 : Demand3
+demand-3 a b okA okB x k pos al be calls = wave-carries (jobOf a) (jobOf b) (accepted-reaches a okA) (accepted-reaches b okB) x k pos al be calls

@@ -8,8 +8,9 @@ use lib.ListN.{length, getD, drop}
 use lib.Ieee.{Float}
 use Rattle.fields.specs.Real.{zero64}
 use Rattle.job.specs.Job.{Job, sections}
-use Rattle.recurrence.specs.Reader.{refusal, jobOf}
-use Rattle.recurrence.specs.State.{Point, State, listed}
+use Rattle.job.specs.Format.{listed, jobOf}
+use Rattle.job.specs.Questions.{refusal}
+use Rattle.recurrence.specs.State.{Point, State}
 use Rattle.recurrence.specs.Run.{Run, Result, refused, ran, Answer, answerOf, start, Call, runOn}
 
 -- "Heads, flows, two envelopes and two spare rows are lent slices of f64 numbers, to start and run-on alike."

@@ -6,7 +6,8 @@ use mathlib.Core.Option.{some}
 use Prim.Native.Nat.{ℕ, suc, _+_, _-_, _≤_, _<_}
 use lib.ListN.{getElem?, length}
 use Rattle.job.specs.Job.{Job, laid, sections, nodeAt, scheduled}
-use Rattle.recurrence.specs.Reader.{Accepted, jobOf}
+use Rattle.job.specs.Format.{jobOf}
+use Rattle.job.specs.Questions.{Accepted}
 use Rattle.recurrence.specs.State.{pointAt}
 use Rattle.recurrence.specs.Scan.{Cause}
 use Rattle.recurrence.specs.Run.{Call, stopAnswer, played, answers, stepsDone}

@@ -1,10 +1,11 @@
 -- What a run holds between steps, and what the start writes. Definitions only.
-use mathlib.Core.List.{List, [], _∷_}
-use Prim.Native.Nat.{ℕ, zero, suc}
+use mathlib.Core.List.{List}
+use Prim.Native.Nat.{ℕ}
 use lib.ListN.{getD}
 use lib.Ieee.{Float}
 use Rattle.fields.specs.Real.{zero64}
 use Rattle.job.specs.Job.{Job, Initial, sections, initialAt}
+use Rattle.job.specs.Format.{listed}
 
 -- What one section holds: its head and flow, and the two envelopes, the highest and the lowest head so far.
 pub record Point : Type 0 where
@@ -23,11 +24,6 @@ noPoint = record { head = zero64; flow = zero64; highest = zero64; lowest = zero
 -- the point of section s
 unfoldable pub pointAt : State → ℕ → Point
 pointAt st s = getD (st .points) s noPoint
-
--- f 0, f 1, .., f (n - 1)
-unfoldable pub listed : {A : Type 0} → ℕ → (ℕ → A) → List A
-listed zero f = []
-listed (suc n) f = f zero ∷ listed n (λ s. f (suc s))
 
 -- "The start writes the initial heads and flows, and both envelopes as the initial heads."
 unfoldable pub startPoint : Initial → Point

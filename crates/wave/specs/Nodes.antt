@@ -78,13 +78,13 @@ unfoldable pub headMore : Discharge → Sums → Float
 headMore (Flow q) s = (s .b ⊞ q) ⊘ s .t
 headMore NotFinite s = infinity64
 
--- H, where B and T are finite. "Junction: H = (B - v)/T", "reservoir: H = v".
-unfoldable pub headOf : Node → Sums → Float
-headOf (Junction v) s = (s .b ⊟ v) ⊘ s .t
-headOf (Reservoir v) s = v
-headOf (Valve v a b) s = headLess (valveFlow v a b s) s
-headOf (Pump v a b c) s = headMore (pumpFlow v a b c s) s
+-- "Where B, T .. is not finite, H is plus infinity."
+unfoldable pub judged : Sums → Float → Float
+judged s H = cond (finite (s .b) && finite (s .t)) H infinity64
 
--- H. "Where B, T or the argument of a root that is taken is not finite, H is plus infinity": of every kind, a reservoir too.
+-- H, judged for every kind. "Junction: H = (B - v)/T", "reservoir: H = v", the valve and the pump as above.
 unfoldable pub nodeHead : Node → Sums → Float
-nodeHead n s = cond (finite (s .b) && finite (s .t)) (headOf n s) infinity64
+nodeHead (Junction v) s = judged s ((s .b ⊟ v) ⊘ s .t)
+nodeHead (Reservoir v) s = judged s v
+nodeHead (Valve v a b) s = judged s (headLess (valveFlow v a b s) s)
+nodeHead (Pump v a b c) s = judged s (headMore (pumpFlow v a b c s) s)

@@ -48,14 +48,16 @@ pub fn magnitude(x: f64) -> f64
 pub fn from_above(s: f64, r: f64, h: f64, q: f64) -> f64
     ensures { λ cp. ⌜ cp ≡ wave.fromAbove s r h q ⌝ }
 {
-    (q + s * h) - (r * q) * magnitude(q)
+    let z = magnitude(q);
+    (q + s * h) - (r * q) * z
 }
 
 // CM: along the reach from the section below.
 pub fn from_below(s: f64, r: f64, h: f64, q: f64) -> f64
     ensures { λ cm. ⌜ cm ≡ wave.fromBelow s r h q ⌝ }
 {
-    (q - s * h) - (r * q) * magnitude(q)
+    let z = magnitude(q);
+    (q - s * h) - (r * q) * z
 }
 
 // An inner section.
@@ -202,31 +204,35 @@ impl Sums {
             Discharge::NotFinite => infinity(),
         }
     }
-}
 
-// H of a node whose sums are finite, by its kind.
-fn head_of(n: Node, sums: Sums) -> f64
-    ensures { λ r. ⌜ r ≡ nodes.headOf n sums ⌝ }
-{
-    match n {
-        Node::Junction(draw) => (sums.b - draw) / sums.t,
-        Node::Reservoir(level) => level,
-        Node::Valve(opening, a, b) => sums.head_less(valve_flow(opening, a, b, sums)),
-        Node::Pump(speed, a, b, c) => sums.head_more(pump_flow(speed, a, b, c, sums)),
-    }
-}
-
-// H of a node: plus infinity where a sum is not finite, of every kind.
-pub fn node_head(n: Node, sums: Sums) -> f64
-    ensures { λ r. ⌜ r ≡ nodes.nodeHead n sums ⌝ }
-{
-    if fields::is_finite(sums.b) {
-        if fields::is_finite(sums.t) {
-            head_of(n, sums)
+    // The head h, and plus infinity where a sum is not finite.
+    pub fn judged(self, h: f64) -> f64
+        ensures { λ r. ⌜ r ≡ nodes.judged self h ⌝ }
+    {
+        if fields::is_finite(self.b) {
+            if fields::is_finite(self.t) {
+                h
+            } else {
+                infinity()
+            }
         } else {
             infinity()
         }
-    } else {
-        infinity()
+    }
+}
+
+// H of a node, by its kind; judged for every kind.
+pub fn node_head(n: Node, sums: Sums) -> f64
+    ensures { λ r. ⌜ r ≡ nodes.nodeHead n sums ⌝ }
+{
+    match n {
+        Node::Junction(draw) => sums.judged((sums.b - draw) / sums.t),
+        Node::Reservoir(level) => sums.judged(level),
+        Node::Valve(opening, a, b) => {
+            sums.judged(sums.head_less(valve_flow(opening, a, b, sums)))
+        }
+        Node::Pump(speed, a, b, c) => {
+            sums.judged(sums.head_more(pump_flow(speed, a, b, c, sums)))
+        }
     }
 }

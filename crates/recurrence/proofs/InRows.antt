@@ -1,0 +1,48 @@
+-- Demand 3 in the rows and answers that a caller sees: the theorem on lists of calls, through what ties the public calls to them. Assumes nothing.
+use mathlib.Core.Path.{_≡_, refl, sym, ap, _∙_}
+use mathlib.Core.List.{List, map}
+use mathlib.Core.Option.{some}
+use Prim.Native.Nat.{ℕ, suc, _<_}
+use lib.ListN.{getElem?}
+use Rattle.job.specs.Job.{Job, laid, sections, sectionsOf}
+use Rattle.job.specs.Format.{jobOf}
+use Rattle.recurrence.specs.State.{pointAt}
+use Rattle.recurrence.specs.Run.{Call, played, answers, stepsDone}
+use Rattle.recurrence.specs.Calls.{Rows, pointIn}
+use Rattle.recurrence.specs.Demand.{AlikeBut, AlikeBefore, BothDone, Carried}
+use Rattle.recurrence.specs.Lent.{LentCall, Started, heldAtStart, heldBy, answersBy, Chained, callOf, CarriedInRows, Demand3InRows}
+use Rattle.recurrence.proofs.Runs.{played-counts}
+use Rattle.recurrence.proofs.Theorem.{demand-3}
+use Rattle.recurrence.proofs.Tied.{Follows, begun, holds-point, calls-follow}
+
+-- an entry of what is held is the point of the run
+entry : (job : List ℕ) (lent : Rows) (cs : List LentCall) (ds : List Call) → Follows job (heldBy job lent cs) (played (jobOf job) ds)
+    → (s : ℕ) → s < sections (jobOf job) → pointIn (heldBy job lent cs .rows) s ≡ pointAt (played (jobOf job) ds .state) s
+unfolding pointAt
+entry job lent cs ds f s l = holds-point (sections (jobOf job)) (heldBy job lent cs .rows) (played (jobOf job) ds .state .points) (f .rows) (f .sized) s l
+
+module _ (a b : List ℕ) (lentA lentB : Rows) (callsA callsB : List LentCall) (cs : List Call)
+    (fa : Follows a (heldBy a lentA callsA) (played (jobOf a) cs)) (fb : Follows b (heldBy b lentB callsB) (played (jobOf b) cs))
+    (sections-same : sections (jobOf a) ≡ sections (jobOf b)) where
+  both-done : (m : ℕ) → heldBy a lentA callsA .done ≡ m → heldBy b lentB callsB .done ≡ m → BothDone (jobOf a) (jobOf b) cs m
+  both-done m ea eb =
+      record { left = sym (fa .done ∙ played-counts (jobOf a) cs) ∙ ea; right = sym (fb .done ∙ played-counts (jobOf b) cs) ∙ eb }
+
+  in-rows : (s : ℕ) → s < sections (jobOf a) → pointAt (played (jobOf a) cs .state) s ≡ pointAt (played (jobOf b) cs .state) s
+      → pointIn (heldBy a lentA callsA .rows) s ≡ pointIn (heldBy b lentB callsB .rows) s
+  in-rows s l e = entry a lentA callsA cs fa s l ∙ e ∙ sym (entry b lentB callsB cs fb s (rw sections-same at l))
+
+pub demand-3-in-rows : Demand3InRows
+unfolding sections
+demand-3-in-rows a b lentA lentB sa sb x k pos al be callsA callsB same chA chB =
+    let cs = map (callOf a) callsA in
+    let wa = calls-follow a lentA sa callsA chA in
+    let wb = rw (← same) at (calls-follow b lentB sb callsB chB) in
+    let c = demand-3 a b (begun a lentA sa .accepted) (begun b lentB sb .accepted) x k pos al be cs in
+    let done = both-done a b lentA lentB callsA callsB cs (wa .0) (wb .0) (ap sectionsOf (al .pipes)) in
+    let rows = in-rows a b lentA lentB callsA callsB cs (wa .0) (wb .0) (ap sectionsOf (al .pipes)) in
+    record {
+      near = λ m d s ea eb l off h. rows s l (c .near m d s (done m ea eb) l off h);
+      apart = λ m s ea eb l off. rows s l (c .apart m s (done m ea eb) l off);
+      stops = λ i cause m s h. rw (wa .1, wb .1) (c .stops i cause m s h);
+    }

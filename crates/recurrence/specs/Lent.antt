@@ -1,0 +1,117 @@
+-- Lists of public calls on lent rows, as a caller makes them, and what ties them to the lists of demand 3. Definitions only.
+use mathlib.Core.Path.{_≡_}
+use mathlib.Core.Logic.{_↔_}
+use mathlib.Core.Bool.{Bool, true, cond, not, _&&_}
+use mathlib.Core.List.{List, [], _∷_, map}
+use mathlib.Core.Option.{some}
+use Prim.Native.Nat.{ℕ, suc, _+_, _-_, _≤_, _<_}
+use lib.Dec.{eqb}
+use lib.ListN.{take, getElem?}
+use lib.Ieee.{Float}
+use Rattle.job.specs.Job.{Job, laid, sections}
+use Rattle.job.specs.Format.{jobOf}
+use Rattle.recurrence.specs.State.{Point}
+use Rattle.recurrence.specs.Scan.{Cause}
+use Rattle.recurrence.specs.Run.{Answer, stopAnswer, Call, played, answers, stepsDone}
+use Rattle.recurrence.specs.Calls.{Rows, enoughLent, pointIn, startCall, runOnCall}
+use Rattle.recurrence.specs.Paths.{EndAt, AtLeast, NoPath}
+use Rattle.recurrence.specs.Demand.{AlikeBut, AlikeBefore}
+
+-- A run-on as a caller makes it: N, and the six rows lent to it.
+pub record LentCall : Type 0 where
+  pub count : ℕ
+  pub rows : Rows
+
+-- What a caller holds between calls: the steps done, and the rows that the last unrefused call left.
+pub record Held : Type 0 where
+  pub done : ℕ
+  pub rows : Rows
+
+-- "A stop is not a refusal": a refusal's number is neither 0 nor a stop's.
+unfoldable pub isRefusal : Answer → Bool
+isRefusal a = not (eqb (a .number) 0) && not (eqb (a .number) 40) && not (eqb (a .number) 41)
+
+-- A start that isn't refused, and what it leaves.
+abbrev pub Started : List ℕ → Rows → Type 0
+Started job lent = startCall job lent .answer .number ≡ 0
+
+unfoldable pub heldAtStart : List ℕ → Rows → Held
+heldAtStart job lent = record { done = 0; rows = startCall job lent .rows }
+
+-- A run-on with the steps done for m: "a refused call alters none of these".
+unfoldable pub answerAt : List ℕ → Held → LentCall → Answer
+answerAt job h c = runOnCall job (h .done) (c .count) (c .rows) .answer
+
+unfoldable pub heldAfter : List ℕ → Held → LentCall → Held
+heldAfter job h c = cond (isRefusal (answerAt job h c)) h record { done = answerAt job h c .steps; rows = runOnCall job (h .done) (c .count) (c .rows) .rows }
+
+unfoldable pub heldFrom : List ℕ → Held → List LentCall → Held
+heldFrom job h [] = h
+heldFrom job h (c ∷ cs) = heldFrom job (heldAfter job h c) cs
+
+unfoldable pub answersTo : List ℕ → Held → List LentCall → List Answer
+answersTo job h [] = []
+answersTo job h (c ∷ cs) = answerAt job h c ∷ answersTo job (heldAfter job h c) cs
+
+-- after a start and a list of run-ons: what is held, and what each was answered
+unfoldable pub heldBy : List ℕ → Rows → List LentCall → Held
+heldBy job lent cs = heldFrom job (heldAtStart job lent) cs
+
+unfoldable pub answersBy : List ℕ → Rows → List LentCall → List Answer
+answersBy job lent cs = answersTo job (heldAtStart job lent) cs
+
+-- two sets of rows hold the same heads, flows and envelopes up to the section count n
+pub record SameUpTo (n : ℕ) (a b : Rows) : Type 0 where
+  pub heads : take n (a .heads) ≡ take n (b .heads)
+  pub flows : take n (a .flows) ≡ take n (b .flows)
+  pub highest : take n (a .highest) ≡ take n (b .highest)
+  pub lowest : take n (a .lowest) ≡ take n (b .lowest)
+
+-- "All get the state and envelopes so left; .. a call refused there may be lent less than the whole state": there is question 20.
+unfoldable pub Chained : List ℕ → Held → List LentCall → Type 0
+Chained job h [] = Unit {0}
+Chained job h (c ∷ cs) =
+    (enoughLent (sections (jobOf job)) (c .rows) ≡ true → SameUpTo (sections (jobOf job)) (c .rows) (h .rows)) × Chained job (heldAfter job h c) cs
+
+-- ---- what ties them to demand 3
+
+-- a call as demand 3 speaks of it: N, and the answer to question 20
+unfoldable pub callOf : List ℕ → LentCall → Call
+callOf job c = record { count = c .count; enough = enoughLent (sections (jobOf job)) (c .rows) }
+
+-- rows hold a field of each point up to the section count n
+pub record Holds (n : ℕ) (r : Rows) (ps : List Point) : Type 0 where
+  pub heads : take n (r .heads) ≡ map (λ (p : Point). p .head) ps
+  pub flows : take n (r .flows) ≡ map (λ (p : Point). p .flow) ps
+  pub highest : take n (r .highest) ≡ map (λ (p : Point). p .highest) ps
+  pub lowest : take n (r .lowest) ≡ map (λ (p : Point). p .lowest) ps
+
+-- The public calls leave the rows, the steps done and the answers that demand 3 speaks of.
+pub record Tied (job : List ℕ) (lent : Rows) (cs : List LentCall) : Type 0 where
+  pub rows : Holds (sections (jobOf job)) (heldBy job lent cs .rows) (played (jobOf job) (map (callOf job) cs) .state .points)
+  pub done : heldBy job lent cs .done ≡ stepsDone (jobOf job) (map (callOf job) cs)
+  pub answered : answersBy job lent cs ≡ answers (jobOf job) (map (callOf job) cs)
+
+abbrev pub CallsTied : Type 0
+CallsTied = (job : List ℕ) (lent : Rows) → Started job lent → (cs : List LentCall) → Chained job (heldAtStart job lent) cs → Tied job lent cs
+
+-- ---- demand 3 as a caller sees it, in rows and answers
+
+-- What two callers hold and were answered: by the jobs a and b, after lists of calls that are the same calls.
+pub record CarriedInRows (a b : List ℕ) (x k : ℕ) (lentA lentB : Rows) (callsA callsB : List LentCall) : Type 0 where
+  pub near : (m d s : ℕ) → heldBy a lentA callsA .done ≡ m → heldBy b lentB callsB .done ≡ m
+      → s < sections (jobOf a) → AtLeast (laid (jobOf a)) (EndAt (laid (jobOf a)) x) s d → m ≤ k + d - 1
+      → pointIn (heldBy a lentA callsA .rows) s ≡ pointIn (heldBy b lentB callsB .rows) s
+  pub apart : (m s : ℕ) → heldBy a lentA callsA .done ≡ m → heldBy b lentB callsB .done ≡ m
+      → s < sections (jobOf a) → NoPath (laid (jobOf a)) (EndAt (laid (jobOf a)) x) s
+      → pointIn (heldBy a lentA callsA .rows) s ≡ pointIn (heldBy b lentB callsB .rows) s
+  pub stops : (c : ℕ) (cause : Cause) (m s : ℕ) → suc m < k
+      → (getElem? (answersBy a lentA callsA) c ≡ some (stopAnswer cause m s))
+      ↔ (getElem? (answersBy b lentB callsB) c ≡ some (stopAnswer cause m s))
+
+-- "The same calls means the same N and the same answer to question 20, call by call."
+abbrev pub Demand3InRows : Type 0
+Demand3InRows =
+    (a b : List ℕ) (lentA lentB : Rows) → Started a lentA → Started b lentB → (x k : ℕ) → 1 ≤ k → AlikeBut x (jobOf a) (jobOf b) → AlikeBefore k x (jobOf a) (jobOf b)
+    → (callsA callsB : List LentCall) → map (callOf a) callsA ≡ map (callOf b) callsB → Chained a (heldAtStart a lentA) callsA → Chained b (heldAtStart b lentB) callsB
+    → CarriedInRows a b x k lentA lentB callsA callsB

@@ -1,0 +1,2 @@
+pub mod SumsLaws
+pub mod Figures
