@@ -8,8 +8,8 @@ use Rattle.fields.specs.Bytes.{u64At, f64At, zeroBitsAt}
 use Rattle.fields.specs.Real.{zero64, one64, two64, four64}
 use Rattle.loops.specs.Loops.{allBelow}
 use Rattle.job.specs.Job.{Job, Pipe, ScheduledNode, Initial, Laid, junction, reservoir, valve, pump, laidFrom, laid, sectionsOf, sections, nodeAt, entryAt, scheduled, frictionAt}
-use Rattle.job.specs.Format.{listed, table, pipeIn, pipesIn, kindIn, rIn, frictionIn, sectionIn, initialIn, placeOf, nodeIn, nodesIn, jobOf}
-use Rattle.job.specs.Questions.{sizeFits, pairsFit, follows, tablesFollow, stepsFit, holdsRecords, joins, pipesJoin, sectionsFit, constantFits, constantsFit, kindFits, kindsFit, figuresFitKind, figureFits, figuresFit, endsAt, hasEnd, nodesMet, reachesOf, rFits, frictionFits, sectionFits, initialFits, entryFits, scheduleFits, schedulesFit, hasLength, pairQuestions, pipeQuestions, nodeQuestions, valueQuestions, questions, firstNo, refusal, Accepted}
+use Rattle.job.specs.Format.{listed, table, pipesIn, reachesOf, kindIn, frictionIn, initialIn, placeOf, nodeIn, nodesIn, jobOf}
+use Rattle.job.specs.Questions.{sizeFits, pairsFit, follows, tablesFollow, stepsFit, holdsRecords, joins, pipesJoin, sectionsFit, constantFits, constantsFit, kindFits, kindsFit, allFinite, hasNoFigures, valveFits, pumpFits, figuresFitKind, figureFits, figuresFit, endsAt, hasEnd, nodesMet, rFits, frictionFits, finiteSection, sectionFits, initialFits, entryFits, scheduleFits, schedulesFit, frictionRight, initialRight, schedulesRight, pairQuestions, pipeQuestions, nodeQuestions, valueQuestions, questions, firstNo, refusal, Accepted}
 
 -- "One pipe of two reaches, S = 1, R = 0; node 0 a reservoir at 10; node 1 a valve, a = 2, b = 6, schedule 0. Heads 10, flows 4, floors 0, one step."
 -- The pairs, the pipe, two nodes, two R, three sections, two schedules.
@@ -118,7 +118,7 @@ pub job-Q-is-read :
           ∷ record { head = ten; flow = four64; floor = zero64 }
           ∷ [];
     }
-unfolding jobQ listed table pipeIn pipesIn kindIn rIn frictionIn sectionIn initialIn placeOf nodeIn nodesIn jobOf f64At u64At
+unfolding jobQ listed table pipesIn kindIn frictionIn initialIn placeOf nodeIn nodesIn jobOf f64At u64At
 job-Q-is-read = refl
 
 pub job-of-all-kinds-is-read :
@@ -141,11 +141,11 @@ pub job-of-all-kinds-is-read :
           ∷ record { head = five; flow = two64; floor = three }
           ∷ [];
     }
-unfolding jobOfAllKinds listed table pipeIn pipesIn kindIn rIn frictionIn sectionIn initialIn placeOf nodeIn nodesIn jobOf f64At u64At
+unfolding jobOfAllKinds listed table pipesIn kindIn frictionIn initialIn placeOf nodeIn nodesIn jobOf f64At u64At
 job-of-all-kinds-is-read = refl
 
 pub both-are-accepted : Accepted jobQ × Accepted jobOfAllKinds
-unfolding jobQ jobOfAllKinds allBelow listed table pipeIn pipesIn sectionsOf rIn sectionIn placeOf f64At u64At zeroBitsAt ofBits lt sizeFits pairsFit follows tablesFollow stepsFit holdsRecords joins pipesJoin sectionsFit constantFits constantsFit kindFits kindsFit figuresFitKind figureFits figuresFit endsAt hasEnd nodesMet reachesOf rFits frictionFits sectionFits initialFits entryFits scheduleFits schedulesFit hasLength pairQuestions pipeQuestions nodeQuestions valueQuestions questions firstNo refusal
+unfolding jobQ jobOfAllKinds allBelow listed table pipesIn sectionsOf placeOf f64At u64At zeroBitsAt ofBits lt sizeFits pairsFit follows tablesFollow stepsFit holdsRecords joins pipesJoin sectionsFit constantFits constantsFit kindFits kindsFit allFinite hasNoFigures valveFits pumpFits figuresFitKind figureFits figuresFit endsAt hasEnd nodesMet reachesOf rFits frictionFits finiteSection sectionFits initialFits entryFits scheduleFits schedulesFit frictionRight initialRight schedulesRight pairQuestions pipeQuestions nodeQuestions valueQuestions questions firstNo refusal
 both-are-accepted = (refl, refl)
 
 pub job-Q-has-214-bytes : length jobQ ≡ 214

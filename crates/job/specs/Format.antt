@@ -60,12 +60,17 @@ scheduleTable job = table job 4
 abbrev pub pipeCount : List ℕ → ℕ
 pipeCount pipes = length pipes / 12
 
-unfoldable pub pipeIn : List ℕ → ℕ → Pipe
+abbrev pub pipeIn : List ℕ → ℕ → Pipe
 pipeIn pipes p =
     record { start = u8At pipes (p * 12); finish = u8At pipes (p * 12 + 1); reaches = u16At pipes (p * 12 + 2); S = f64At pipes (p * 12 + 4) }
 
 unfoldable pub pipesIn : List ℕ → List Pipe
 pipesIn pipes = listed (pipeCount pipes) (pipeIn pipes)
+
+-- the number of reaches in all
+unfoldable pub reachesOf : List Pipe → ℕ
+reachesOf [] = 0
+reachesOf (q ∷ qs) = q .reaches + reachesOf qs
 
 -- ---- "2. Nodes, 26 bytes: u8 kind, u8 schedule count, f64 a, b, c."
 
@@ -98,7 +103,7 @@ kindIn nodes y =
 
 -- ---- "3. One f64 R per reach, pipe by pipe."
 
-unfoldable pub rIn : List ℕ → ℕ → Float
+abbrev pub rIn : List ℕ → ℕ → Float
 rIn friction r = f64At friction (r * 8)
 
 unfoldable pub frictionIn : List ℕ → List Float
@@ -106,7 +111,7 @@ frictionIn friction = listed (length friction / 8) (rIn friction)
 
 -- ---- "4. Per section, numbered through all pipes from 0: f64 head, flow, floor head."
 
-unfoldable pub sectionIn : List ℕ → ℕ → Initial
+abbrev pub sectionIn : List ℕ → ℕ → Initial
 sectionIn initial s =
     record { head = f64At initial (s * 24); flow = f64At initial (s * 24 + 8); floor = f64At initial (s * 24 + 16) }
 

@@ -11,7 +11,7 @@ use Rattle.fields.specs.Real.{zero64, one64}
 use Rattle.fields.specs.Bytes.{zeroBitsAt}
 use Rattle.loops.specs.Loops.{allBelow}
 use Rattle.job.specs.Job.{Pipe, Initial, sectionsOf}
-use Rattle.job.specs.Format.{pairCount, listingSteps, pairsAsked, pairsEnd, offsetOf, lengthOf, pipeTable, nodeTable, frictionTable, initialTable, scheduleTable, pipeCount, pipeIn, pipesIn, nodeCount, kindNumber, scheduleCount, aOf, bOf, cOf, rIn, sectionIn, placeOf, entryIn}
+use Rattle.job.specs.Format.{pairCount, listingSteps, pairsAsked, pairsEnd, offsetOf, lengthOf, pipeTable, nodeTable, frictionTable, initialTable, scheduleTable, pipeCount, pipeIn, pipesIn, reachesOf, nodeCount, kindNumber, scheduleCount, aOf, bOf, cOf, rIn, sectionIn, placeOf, entryIn}
 
 -- "not below zero", which -0 is
 abbrev pub notBelowZero : Float → Bool
@@ -84,7 +84,7 @@ unfoldable pub kindsFit : List ℕ → Bool
 kindsFit nodes = allBelow (kindFits nodes) (nodeCount nodes)
 
 -- 11 "Are a, b, c finite, valve a and pump a, b not below zero, fields the kind doesn't name all zero bits?"
-abbrev pub allFinite : List ℕ → ℕ → Bool
+unfoldable pub allFinite : List ℕ → ℕ → Bool
 allFinite nodes y = finite (aOf nodes y) && finite (bOf nodes y) && finite (cOf nodes y)
 
 abbrev pub zeroA : List ℕ → ℕ → Bool
@@ -96,11 +96,18 @@ zeroB nodes y = zeroBitsAt nodes (y * 26 + 10)
 abbrev pub zeroC : List ℕ → ℕ → Bool
 zeroC nodes y = zeroBitsAt nodes (y * 26 + 18)
 
+unfoldable pub hasNoFigures : List ℕ → ℕ → Bool
+hasNoFigures nodes y = zeroA nodes y && zeroB nodes y && zeroC nodes y
+
+unfoldable pub valveFits : List ℕ → ℕ → Bool
+valveFits nodes y = notBelowZero (aOf nodes y) && zeroC nodes y
+
+unfoldable pub pumpFits : List ℕ → ℕ → Bool
+pumpFits nodes y = notBelowZero (aOf nodes y) && notBelowZero (bOf nodes y)
+
 unfoldable pub figuresFitKind : List ℕ → ℕ → Bool
 figuresFitKind nodes y =
-    cond (eqb (kindNumber nodes y) 2) (notBelowZero (aOf nodes y) && zeroC nodes y)
-    (cond (eqb (kindNumber nodes y) 3) (notBelowZero (aOf nodes y) && notBelowZero (bOf nodes y))
-    (zeroA nodes y && zeroB nodes y && zeroC nodes y))
+    cond (eqb (kindNumber nodes y) 2) (valveFits nodes y) (cond (eqb (kindNumber nodes y) 3) (pumpFits nodes y) (hasNoFigures nodes y))
 
 unfoldable pub figureFits : List ℕ → ℕ → Bool
 figureFits nodes y = allFinite nodes y && figuresFitKind nodes y
@@ -120,9 +127,8 @@ nodesMet pipes count = allBelow (hasEnd pipes) count
 
 -- ---- values
 
-unfoldable pub reachesOf : List Pipe → ℕ
-reachesOf [] = 0
-reachesOf (q ∷ qs) = q .reaches + reachesOf qs
+abbrev pub hasLength : ℕ → List ℕ → Bool
+hasLength n t = eqb (length t) n
 
 -- 13 "Has table 3 the right length, each R finite and not below zero?"
 unfoldable pub rFits : List ℕ → ℕ → Bool
@@ -131,12 +137,21 @@ rFits friction r = finite (rIn friction r) && notBelowZero (rIn friction r)
 unfoldable pub frictionFits : List ℕ → Bool
 frictionFits friction = allBelow (rFits friction) (length friction / 8)
 
+unfoldable pub frictionRight : List ℕ → List ℕ → Bool
+frictionRight pipes friction = hasLength (reachesOf (pipesIn pipes) * 8) friction && frictionFits friction
+
 -- 14 "Has table 4 the right length, all finite, no head below its floor?"
+unfoldable pub finiteSection : Initial → Bool
+finiteSection i = finite (i .head) && finite (i .flow) && finite (i .floor)
+
 unfoldable pub sectionFits : Initial → Bool
-sectionFits i = finite (i .head) && finite (i .flow) && finite (i .floor) && not (lt (i .head) (i .floor))
+sectionFits i = finiteSection i && not (lt (i .head) (i .floor))
 
 unfoldable pub initialFits : List ℕ → Bool
 initialFits initial = allBelow (λ s. sectionFits (sectionIn initial s)) (length initial / 24)
+
+unfoldable pub initialRight : List ℕ → List ℕ → Bool
+initialRight pipes initial = hasLength (sectionsOf (pipesIn pipes) * 24) initial && initialFits initial
 
 -- 15 "Has table 5 the right length, all finite and in its kind's range?" A junction's draw-off and a reservoir's head are "any finite number", a valve's opening and a pump's speed "from 0 to 1".
 unfoldable pub entryFits : ℕ → Float → Bool
@@ -149,8 +164,8 @@ scheduleFits nodes schedules y =
 unfoldable pub schedulesFit : List ℕ → List ℕ → Bool
 schedulesFit nodes schedules = allBelow (scheduleFits nodes schedules) (nodeCount nodes)
 
-unfoldable pub hasLength : ℕ → List ℕ → Bool
-hasLength n t = eqb (length t) n
+unfoldable pub schedulesRight : List ℕ → List ℕ → Bool
+schedulesRight nodes schedules = hasLength (placeOf nodes (nodeCount nodes) * 8) schedules && schedulesFit nodes schedules
 
 -- ---- the table of questions
 
@@ -183,9 +198,9 @@ nodeQuestions =
 
 unfoldable pub valueQuestions : List Question
 valueQuestions =
-    (13, λ job. hasLength (reachesOf (pipesIn (pipeTable job)) * 8) (frictionTable job) && frictionFits (frictionTable job))
-    ∷ (14, λ job. hasLength (sectionsOf (pipesIn (pipeTable job)) * 24) (initialTable job) && initialFits (initialTable job))
-    ∷ (15, λ job. hasLength (placeOf (nodeTable job) (nodeCount (nodeTable job)) * 8) (scheduleTable job) && schedulesFit (nodeTable job) (scheduleTable job))
+    (13, λ job. frictionRight (pipeTable job) (frictionTable job))
+    ∷ (14, λ job. initialRight (pipeTable job) (initialTable job))
+    ∷ (15, λ job. schedulesRight (nodeTable job) (scheduleTable job))
     ∷ []
 
 unfoldable pub questions : List Question

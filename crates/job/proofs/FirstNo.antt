@@ -1,0 +1,76 @@
+-- The first no of a row of questions after another, and the yes to each question where there is no first no. Assumes nothing.
+use mathlib.Core.Path.{_≡_, refl, sym, _∙_}
+use mathlib.Core.Bool.{Bool, true, false, cond, not, _&&_}
+use mathlib.Core.List.{List, [], _∷_, _++_}
+use Prim.Native.Nat.{ℕ, zero, suc}
+use native.Mathlib.Omega.{arith}
+use lib.Dec.{eqb}
+use borrow.Author.Tests.{eqb-true, eqb-false, eq-eqb, ne-eqb, not-true, not-false}
+use Rattle.job.specs.Questions.{Question, firstNo, pairQuestions, pipeQuestions, nodeQuestions, valueQuestions, questions, refusal, Accepted}
+
+-- m, and n where m is 0
+abbrev pub orElse : ℕ → ℕ → ℕ
+orElse m n = cond (eqb m 0) n m
+
+abbrev numbered : List Question → Bool
+numbered [] = true
+numbered (q ∷ qs) = not (eqb (q .0) 0) && numbered qs
+
+first-join : (xs ys : List Question) (job : List ℕ) → numbered xs ≡ true → firstNo (xs ++ ys) job ≡ orElse (firstNo xs job) (firstNo ys job)
+unfolding firstNo
+first-join [] ys job h = refl
+first-join (q ∷ qs) ys job h = go (eqb (q .0) 0) (numbered qs) (q .1 job) h refl (first-join qs ys job)
+  where
+    go :
+        (z m : Bool) (t : Bool) → not z && m ≡ true → eqb (q .0) 0 ≡ z → (m ≡ true → firstNo (qs ++ ys) job ≡ orElse (firstNo qs job) (firstNo ys job))
+        → cond t (firstNo (qs ++ ys) job) (q .0) ≡ orElse (cond t (firstNo qs job) (q .0)) (firstNo ys job)
+    go true m t h e ih = cc
+    go false m true h e ih = ih h
+    go false m false h e ih = rw e
+
+pub refusal-is :
+    (job : List ℕ)
+    → refusal job ≡ orElse (orElse (orElse (firstNo pairQuestions job) (firstNo pipeQuestions job)) (firstNo nodeQuestions job)) (firstNo valueQuestions job)
+unfolding refusal questions pairQuestions pipeQuestions nodeQuestions
+refusal-is job =
+    first-join (pairQuestions ++ pipeQuestions ++ nodeQuestions) valueQuestions job refl
+    ∙ rw (first-join (pairQuestions ++ pipeQuestions) nodeQuestions job refl, first-join pairQuestions pipeQuestions job refl)
+
+pub keeps : (m n : ℕ) → (m ≡ 0 → ⊥) → orElse m n ≡ m
+keeps m n h = rw (ne-eqb m 0 h)
+
+pub goes-on : (m n : ℕ) → m ≡ 0 → orElse m n ≡ n
+goes-on m n h = rw (eq-eqb m 0 h)
+
+none-of-both : (m n : ℕ) → orElse m n ≡ 0 → (m ≡ 0) × (n ≡ 0)
+none-of-both m n = go (eqb m 0) refl
+  where
+    go : (z : Bool) → eqb m 0 ≡ z → cond z n m ≡ 0 → (m ≡ 0) × (n ≡ 0)
+    go true e h = (eqb-true m 0 e, h)
+    go false e h = absurd (eqb-false m 0 e h)
+
+-- an accepted job has no first no in any part of the table
+pub record NoneRefused (job : List ℕ) : Type 0 where
+  pub pairs : firstNo pairQuestions job ≡ 0
+  pub pipes : firstNo pipeQuestions job ≡ 0
+  pub nodes : firstNo nodeQuestions job ≡ 0
+  pub values : firstNo valueQuestions job ≡ 0
+
+pub none-refused : (job : List ℕ) → Accepted job → NoneRefused job
+none-refused job h =
+    let v = none-of-both _ _ (sym (refusal-is job) ∙ h) in
+    let n = none-of-both _ _ (v .0) in
+    let p = none-of-both _ _ (n .0) in
+    record { pairs = p .0; pipes = p .1; nodes = n .1; values = v .1 }
+
+-- a row that is passed: its test is true, and the rows after it have no first no either
+pub yes : (t : Bool) (n m : ℕ) → cond t m (suc n) ≡ 0 → (t ≡ true) × (m ≡ 0)
+yes true n m h = (refl, h)
+yes false n m h = absurd (omega arith)
+
+-- what a branch on the answer to a question tells of the question's test
+pub is-yes : {r t : Bool} → r ≡ t → not r ≡ false → t ≡ true
+is-yes e h = sym e ∙ not-false _ h
+
+pub is-no : {r t : Bool} → r ≡ t → not r ≡ true → t ≡ false
+is-no e h = sym e ∙ not-true _ h

@@ -1,0 +1,66 @@
+-- `job::pairs::tables_follow` meets its contract: the invariant has where the next table must begin. Assumes nothing.
+use mathlib.Core.Path.{_≡_, refl, sym, _∙_}
+use mathlib.Core.Bool.{false}
+use Prim.Native.Nat.{_-_}
+use native.Mathlib.Numerals.{add-one}
+use denote.Ref.{now}
+use Rattle.loops.specs.Loops.{allBelow}
+use native.Mathlib.Omega.{arith}
+use borrow.Author.Tests.{eq-eqb, ne-eqb}
+use Rattle.loops.proofs.All.{Passing, passing-none, passing-step, passing-stop, passing-done}
+use Rattle.job.specs.Format.{pairCount}
+use Rattle.job.specs.Questions.{beginOf, follows, tablesFollow}
+use borrow.Author.Needs.{needs}
+use Rattle.job.proofs.pairs.tables_follow.Statement.{statement}
+use Rattle.job.proofs.pairs.tables_follow.Tie as tie
+
+abbrev Inv-loop : tie.InvT-loop
+Inv-loop job count begin₀ k₀ begin k = Passing (follows job) count k × (begin ≡ beginOf job k) × (count ≡ pairCount job)
+
+abbrev μ-loop : tie.MeasureT-loop
+μ-loop job count begin₀ k₀ begin k = count - k
+
+loop-holds : tie.Need-loop-holds Inv-loop μ-loop
+loop-holds c = (passing-none _, rw (← c .before .pair-count .ensures .0) (c .pairs-end .ensures), c .before .pair-count .ensures .0)
+
+returns : tie.Need-returns Inv-loop μ-loop
+unfolding tablesFollow follows
+returns c =
+    let at = c .before .before .before in
+    let no : false ≡ allBelow (follows (now (at .before .before .before .before .args .job))) (at .before .before .pair-count .result) =
+    passing-stop _ (c .before .before .loop-test .taken) refl (rw (← c .before .offset-of .ensures .0, ← at .loop .inv .1) (ne-eqb _ _ (c .if1 .taken))) in
+    rw (← at .loop .inv .2, ← no)
+
+loop-again : tie.Need-loop-again Inv-loop μ-loop
+unfolding follows
+loop-again c =
+    let at = c .before .before .before .before in (
+      passing-step _ (at .loop .inv .0) (omega arith) refl (rw (← c .before .before .offset-of .ensures .0, ← at .loop .inv .1) (eq-eqb _ _ (c .before .if1 .left))),
+      rw (add-one, ← c .before .before .offset-of .ensures .0, ← c .length-of .ensures .0),
+      at .loop .inv .2,
+    )
+
+returns-2 : tie.Need-returns-2 Inv-loop μ-loop
+unfolding tablesFollow
+returns-2 c =
+    let at = c .before in
+    let e : at .loop .k ≡ at .before .before .pair-count .result = omega arith in
+    rw (← at .loop .inv .2, ← passing-done _ (at .loop .inv .0) (c .loop-test .left), ← e, at .loop .inv .1)
+
+pub tables-follow-spec : {M : Type 1} → statement M
+tables-follow-spec =
+    tie.close
+    (tie.spec
+    Inv-loop
+    μ-loop
+    (λ c κs. search needs)
+    (λ c κs. search needs)
+    loop-holds
+    (λ c κs. search needs)
+    returns
+    (λ c κs. search needs)
+    (λ c. search needs)
+    (λ c. search needs)
+    (λ c. search needs)
+    loop-again
+    returns-2)

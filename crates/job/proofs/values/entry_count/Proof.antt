@@ -1,0 +1,43 @@
+-- `job::values::entry_count` meets its contract: the invariant has the entries of the nodes before y. Assumes nothing.
+use mathlib.Core.Path.{_≡_, refl, sym, _∙_}
+use Prim.Native.Nat.{_≤_, _*_, _-_}
+use native.Mathlib.Omega.{arith}
+use denote.Ref.{now}
+use Rattle.job.specs.Format.{nodeCount, placeOf}
+use Rattle.job.proofs.Sums.{place-more}
+use borrow.Author.Needs.{needs}
+use Rattle.job.proofs.values.entry_count.Statement.{statement}
+use Rattle.job.proofs.values.entry_count.Tie as tie
+
+abbrev Inv-loop : tie.InvT-loop
+Inv-loop nodes n place₀ y₀ place y = (y ≤ n) × (place ≡ placeOf nodes y) × (place ≤ y * 256)
+
+abbrev μ-loop : tie.MeasureT-loop
+μ-loop nodes n place₀ y₀ place y = n - y
+
+loop-holds : tie.Need-loop-holds Inv-loop μ-loop
+unfolding placeOf
+loop-holds c = (search needs, refl, search needs)
+
+loop-again : tie.Need-loop-again Inv-loop μ-loop
+loop-again c = (search needs, rw (place-more, c .before .before .loop .inv .1, c .schedule-count .ensures .0), search needs)
+
+returns : tie.Need-returns Inv-loop μ-loop
+returns c =
+    let at = c .before in
+    let e : nodeCount (now (at .before .before .args .nodes)) ≡ at .loop .y = omega arith in
+    (rw e (at .loop .inv .1), search needs)
+
+pub entry-count-spec : {M : Type 1} → statement M
+entry-count-spec =
+    tie.close
+    (tie.spec
+    Inv-loop
+    μ-loop
+    loop-holds
+    (λ c κs. search needs)
+    (λ c. search needs)
+    (λ c. search needs)
+    (λ c. search needs)
+    loop-again
+    returns)

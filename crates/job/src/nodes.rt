@@ -1,0 +1,193 @@
+// The table of nodes, and questions 10 to 12.
+ghost use mathlib.Core.Path.{_≡_};
+ghost use mathlib.Core.Bool.{true};
+ghost use Prim.Native.Nat.{ℕ, _+_, _*_, _<_, _≤_};
+ghost use lib.ListN.{length};
+ghost use lib.Ieee.Scale.{finite};
+ghost use Rattle.fields.specs.Bytes.{f64At, finiteAt};
+ghost use Rattle.job.specs.Format.{pipeCount, pipeIn, nodeCount, kindNumber, scheduleCount};
+ghost use Rattle.job.specs.Questions.{notBelowZero, kindFits, kindsFit, allFinite, hasNoFigures, valveFits, pumpFits, figuresFitKind, figureFits, figuresFit, endsAt, hasEnd, nodesMet, pairQuestions, nodeQuestions, firstNo};
+
+// The number of node y's kind.
+pub fn kind(nodes: &[u8], y: usize) -> usize
+    requires { ⌜ y < nodeCount (now nodes) ⌝ }
+    ensures { λ r. ⌜ (r ≡ kindNumber (now (nodes .entry)) y) × (r < 256) ⌝ }
+{
+    fields::index(nodes[y * 26])
+}
+
+// The number of entries in node y's schedule.
+pub fn schedule_count(nodes: &[u8], y: usize) -> usize
+    requires { ⌜ y < nodeCount (now nodes) ⌝ }
+    ensures { λ r. ⌜ (r ≡ scheduleCount (now (nodes .entry)) y) × (r < 256) ⌝ }
+{
+    fields::index(nodes[y * 26 + 1])
+}
+
+// 10, of node y: is the kind 0 to 3 and the schedule count at least 1?
+fn kind_fits(nodes: &[u8], y: usize) -> bool
+    requires { ⌜ y < nodeCount (now nodes) ⌝ }
+    ensures { λ r. ⌜ r ≡ kindFits (now (nodes .entry)) y ⌝ }
+{
+    (kind(nodes, y) <= 3) & (1 <= schedule_count(nodes, y))
+}
+
+// 10
+fn kinds_fit(nodes: &[u8]) -> bool
+    ensures { λ r. ⌜ r ≡ kindsFit (now (nodes .entry)) ⌝ }
+{
+    let n = nodes.len() / 26;
+    let mut y = 0;
+    while y < n {
+        if !kind_fits(nodes, y) {
+            return false;
+        }
+        y += 1;
+    }
+    true
+}
+
+// Is the f64 at a place, which is finite, not below zero? -0 is not.
+pub fn not_below_zero(t: &[u8], at: usize) -> bool
+    requires { ⌜ (at + 8 ≤ length (now t)) × (finiteAt (now t) at ≡ true) ⌝ }
+    ensures { λ r. ⌜ r ≡ notBelowZero (f64At (now (t .entry)) at) ⌝ }
+{
+    !(fields::f64_at(t, at) < 0.0)
+}
+
+fn all_finite(nodes: &[u8], y: usize) -> bool
+    requires { ⌜ y < nodeCount (now nodes) ⌝ }
+    ensures { λ r. ⌜ r ≡ allFinite (now (nodes .entry)) y ⌝ }
+{
+    let at = y * 26;
+    fields::finite_at(nodes, at + 2)
+        & fields::finite_at(nodes, at + 10)
+        & fields::finite_at(nodes, at + 18)
+}
+
+// Has node y no figures: are a, b and c all zero bits?
+fn has_no_figures(nodes: &[u8], y: usize) -> bool
+    requires { ⌜ y < nodeCount (now nodes) ⌝ }
+    ensures { λ r. ⌜ r ≡ hasNoFigures (now (nodes .entry)) y ⌝ }
+{
+    let at = y * 26;
+    fields::zero_bits_at(nodes, at + 2)
+        & fields::zero_bits_at(nodes, at + 10)
+        & fields::zero_bits_at(nodes, at + 18)
+}
+
+// What a valve asks of its figures.
+fn valve_fits(nodes: &[u8], y: usize) -> bool
+    requires { ⌜ (y < nodeCount (now nodes)) × (allFinite (now nodes) y ≡ true) ⌝ }
+    ensures { λ r. ⌜ r ≡ valveFits (now (nodes .entry)) y ⌝ }
+{
+    let at = y * 26;
+    not_below_zero(nodes, at + 2) & fields::zero_bits_at(nodes, at + 18)
+}
+
+// What a pump asks of its figures.
+fn pump_fits(nodes: &[u8], y: usize) -> bool
+    requires { ⌜ (y < nodeCount (now nodes)) × (allFinite (now nodes) y ≡ true) ⌝ }
+    ensures { λ r. ⌜ r ≡ pumpFits (now (nodes .entry)) y ⌝ }
+{
+    let at = y * 26;
+    not_below_zero(nodes, at + 2) & not_below_zero(nodes, at + 10)
+}
+
+// What node y's kind asks of its figures.
+fn figures_fit_kind(nodes: &[u8], y: usize) -> bool
+    requires { ⌜ (y < nodeCount (now nodes)) × (allFinite (now nodes) y ≡ true) ⌝ }
+    ensures { λ r. ⌜ r ≡ figuresFitKind (now (nodes .entry)) y ⌝ }
+{
+    let k = kind(nodes, y);
+    if k == 2 {
+        return valve_fits(nodes, y);
+    }
+    if k == 3 {
+        return pump_fits(nodes, y);
+    }
+    has_no_figures(nodes, y)
+}
+
+// 11, of node y
+fn figure_fits(nodes: &[u8], y: usize) -> bool
+    requires { ⌜ y < nodeCount (now nodes) ⌝ }
+    ensures { λ r. ⌜ r ≡ figureFits (now (nodes .entry)) y ⌝ }
+{
+    if all_finite(nodes, y) {
+        figures_fit_kind(nodes, y)
+    } else {
+        false
+    }
+}
+
+// 11
+fn figures_fit(nodes: &[u8]) -> bool
+    ensures { λ r. ⌜ r ≡ figuresFit (now (nodes .entry)) ⌝ }
+{
+    let n = nodes.len() / 26;
+    let mut y = 0;
+    while y < n {
+        if !figure_fits(nodes, y) {
+            return false;
+        }
+        y += 1;
+    }
+    true
+}
+
+// Has pipe p an end at node y?
+fn ends_at(pipes: &[u8], y: usize, p: usize) -> bool
+    requires { ⌜ p < pipeCount (now pipes) ⌝ }
+    ensures { λ r. ⌜ r ≡ endsAt y (pipeIn (now (pipes .entry)) p) ⌝ }
+{
+    (super::pipes::start(pipes, p) == y) | (super::pipes::finish(pipes, p) == y)
+}
+
+// 12, of node y: has it a pipe end?
+fn has_end(pipes: &[u8], y: usize) -> bool
+    ensures { λ r. ⌜ r ≡ hasEnd (now (pipes .entry)) y ⌝ }
+{
+    let n = pipes.len() / 12;
+    let mut p = 0;
+    while p < n {
+        if ends_at(pipes, y, p) {
+            return true;
+        }
+        p += 1;
+    }
+    false
+}
+
+// 12
+fn nodes_met(pipes: &[u8], count: usize) -> bool
+    ensures { λ r. ⌜ r ≡ nodesMet (now (pipes .entry)) count ⌝ }
+{
+    let mut y = 0;
+    while y < count {
+        if !has_end(pipes, y) {
+            return false;
+        }
+        y += 1;
+    }
+    true
+}
+
+// The first of questions 10 to 12 with a no, or 0.
+pub fn first_no(job: &[u8]) -> usize
+    requires { ⌜ firstNo pairQuestions (now job) ≡ 0 ⌝ }
+    ensures { λ r. ⌜ r ≡ firstNo nodeQuestions (now (job .entry)) ⌝ }
+{
+    let pipes = super::pairs::table(job, 0);
+    let nodes = super::pairs::table(job, 1);
+    if !kinds_fit(nodes) {
+        return 10;
+    }
+    if !figures_fit(nodes) {
+        return 11;
+    }
+    if !nodes_met(pipes, nodes.len() / 26) {
+        return 12;
+    }
+    0
+}

@@ -1,0 +1,160 @@
+// The table of pipes, and questions 5 to 9. Tests that stand by themselves are joined by `&`, which asks
+// each of them: a proof then meets no branch.
+ghost use mathlib.Core.Path.{_≡_};
+ghost use mathlib.Core.Bool.{true};
+ghost use Prim.Native.Nat.{ℕ, _+_, _*_, _<_, _≤_};
+ghost use lib.ListN.{length};
+ghost use lib.Ieee.Scale.{finite};
+ghost use Rattle.job.specs.Job.{sectionsOf};
+ghost use Rattle.job.specs.Format.{pipeCount, pipeIn, pipesIn, reachesOf};
+ghost use Rattle.job.specs.Questions.{holdsRecords, joins, pipesJoin, sectionsFit, constantFits, constantsFit, pairQuestions, pipeQuestions, firstNo};
+
+// The start node of pipe p.
+pub fn start(pipes: &[u8], p: usize) -> usize
+    requires { ⌜ p < pipeCount (now pipes) ⌝ }
+    ensures { λ r. ⌜ (r ≡ pipeIn (now (pipes .entry)) p .start) × (r < 256) ⌝ }
+{
+    fields::index(pipes[p * 12])
+}
+
+// The finish node of pipe p.
+pub fn finish(pipes: &[u8], p: usize) -> usize
+    requires { ⌜ p < pipeCount (now pipes) ⌝ }
+    ensures { λ r. ⌜ (r ≡ pipeIn (now (pipes .entry)) p .finish) × (r < 256) ⌝ }
+{
+    fields::index(pipes[p * 12 + 1])
+}
+
+// The number of reaches of pipe p.
+pub fn reaches(pipes: &[u8], p: usize) -> usize
+    requires { ⌜ p < pipeCount (now pipes) ⌝ }
+    ensures { λ r. ⌜ (r ≡ pipeIn (now (pipes .entry)) p .reaches) × (r < 65536) ⌝ }
+{
+    fields::u16_at(pipes, p * 12 + 2)
+}
+
+// S of pipe p.
+pub fn constant(pipes: &[u8], p: usize) -> f64
+    requires { ⌜ (p < pipeCount (now pipes)) × (finite (pipeIn (now pipes) p .S) ≡ true) ⌝ }
+    ensures { λ r. ⌜ r ≡ pipeIn (now (pipes .entry)) p .S ⌝ }
+{
+    fields::f64_at(pipes, p * 12 + 4)
+}
+
+// The number of reaches in all.
+pub fn reach_count(pipes: &[u8]) -> usize
+    requires { ⌜ length (now pipes) ≤ 32768 ⌝ }
+    ensures { λ r. ⌜ (r ≡ reachesOf (pipesIn (now (pipes .entry)))) × (r < 268435456) ⌝ }
+{
+    let count = pipes.len() / 12;
+    let mut sum = 0;
+    let mut p = 0;
+    while p < count {
+        sum = sum + reaches(pipes, p);
+        p += 1;
+    }
+    sum
+}
+
+// The section count: a pipe of n reaches has n + 1 sections.
+pub fn section_count(pipes: &[u8]) -> usize
+    requires { ⌜ length (now pipes) ≤ 32768 ⌝ }
+    ensures { λ r. ⌜ (r ≡ sectionsOf (pipesIn (now (pipes .entry)))) × (r < 536870912) ⌝ }
+{
+    reach_count(pipes) + pipes.len() / 12
+}
+
+// Is the table one of whole records, low to high of them?
+pub fn holds_records(t: &[u8], width: usize, low: usize, high: usize) -> bool
+    requires { ⌜ 0 < width ⌝ }
+    ensures { λ r. ⌜ r ≡ holdsRecords width low high (now (t .entry)) ⌝ }
+{
+    let count = t.len() / width;
+    (t.len() % width == 0) & (low <= count) & (count <= high)
+}
+
+// 7, of pipe p: has it two different nodes, both present, and 1 to 511 reaches?
+fn joins(pipes: &[u8], count: usize, p: usize) -> bool
+    requires { ⌜ p < pipeCount (now pipes) ⌝ }
+    ensures { λ r. ⌜ r ≡ joins count (pipeIn (now (pipes .entry)) p) ⌝ }
+{
+    let a = start(pipes, p);
+    let b = finish(pipes, p);
+    let n = reaches(pipes, p);
+    (a != b) & (a < count) & (b < count) & (1 <= n) & (n <= 511)
+}
+
+// 7
+fn pipes_join(pipes: &[u8], count: usize) -> bool
+    ensures { λ r. ⌜ r ≡ pipesJoin (now (pipes .entry)) count ⌝ }
+{
+    let n = pipes.len() / 12;
+    let mut p = 0;
+    while p < n {
+        if !joins(pipes, count, p) {
+            return false;
+        }
+        p += 1;
+    }
+    true
+}
+
+// 8
+fn sections_fit(pipes: &[u8]) -> bool
+    requires { ⌜ length (now pipes) ≤ 32768 ⌝ }
+    ensures { λ r. ⌜ r ≡ sectionsFit (now (pipes .entry)) ⌝ }
+{
+    section_count(pipes) <= 512
+}
+
+// 9, of pipe p: is S finite and above zero?
+fn constant_fits(pipes: &[u8], p: usize) -> bool
+    requires { ⌜ p < pipeCount (now pipes) ⌝ }
+    ensures { λ r. ⌜ r ≡ constantFits (pipeIn (now (pipes .entry)) p) ⌝ }
+{
+    if fields::finite_at(pipes, p * 12 + 4) {
+        0.0 < constant(pipes, p)
+    } else {
+        false
+    }
+}
+
+// 9
+fn constants_fit(pipes: &[u8]) -> bool
+    ensures { λ r. ⌜ r ≡ constantsFit (now (pipes .entry)) ⌝ }
+{
+    let n = pipes.len() / 12;
+    let mut p = 0;
+    while p < n {
+        if !constant_fits(pipes, p) {
+            return false;
+        }
+        p += 1;
+    }
+    true
+}
+
+// The first of questions 5 to 9 with a no, or 0.
+pub fn first_no(job: &[u8]) -> usize
+    requires { ⌜ firstNo pairQuestions (now job) ≡ 0 ⌝ }
+    ensures { λ r. ⌜ r ≡ firstNo pipeQuestions (now (job .entry)) ⌝ }
+{
+    let pipes = super::pairs::table(job, 0);
+    let nodes = super::pairs::table(job, 1);
+    if !holds_records(pipes, 12, 1, 32) {
+        return 5;
+    }
+    if !holds_records(nodes, 26, 2, 32) {
+        return 6;
+    }
+    if !pipes_join(pipes, nodes.len() / 26) {
+        return 7;
+    }
+    if !sections_fit(pipes) {
+        return 8;
+    }
+    if !constants_fit(pipes) {
+        return 9;
+    }
+    0
+}

@@ -1,0 +1,182 @@
+// The tables of f64 numbers: friction, heads, flows and floors, schedules; and questions 13 to 15.
+ghost use mathlib.Core.Path.{_≡_};
+ghost use mathlib.Core.Bool.{true};
+ghost use Prim.Native.Nat.{ℕ, _+_, _*_, _/_, _<_, _≤_};
+ghost use lib.ListN.{length};
+ghost use Rattle.loops.specs.Loops.{allBelow};
+ghost use Rattle.job.specs.Format.{nodeCount, rIn, sectionIn, placeOf, entryIn};
+ghost use Rattle.job.specs.Questions.{rFits, frictionFits, frictionRight, finiteSection, sectionFits, initialFits, initialRight, entryFits, schedulesFit, schedulesRight, pairQuestions, valueQuestions, firstNo};
+
+// 13, of reach r: is R finite and not below zero?
+fn r_fits(friction: &[u8], r: usize) -> bool
+    requires { ⌜ r < length (now friction) / 8 ⌝ }
+    ensures { λ b. ⌜ b ≡ rFits (now (friction .entry)) r ⌝ }
+{
+    if fields::finite_at(friction, r * 8) {
+        super::nodes::not_below_zero(friction, r * 8)
+    } else {
+        false
+    }
+}
+
+// 13, of each reach
+fn friction_fits(friction: &[u8]) -> bool
+    ensures { λ r. ⌜ r ≡ frictionFits (now (friction .entry)) ⌝ }
+{
+    let n = friction.len() / 8;
+    let mut r = 0;
+    while r < n {
+        if !r_fits(friction, r) {
+            return false;
+        }
+        r += 1;
+    }
+    true
+}
+
+// 13
+fn friction_right(pipes: &[u8], friction: &[u8]) -> bool
+    requires { ⌜ length (now pipes) ≤ 32768 ⌝ }
+    ensures { λ r. ⌜ r ≡ frictionRight (now (pipes .entry)) (now (friction .entry)) ⌝ }
+{
+    (friction.len() == super::pipes::reach_count(pipes) * 8) & friction_fits(friction)
+}
+
+// Are head, flow and floor of section s finite?
+fn finite_section(initial: &[u8], s: usize) -> bool
+    requires { ⌜ s < length (now initial) / 24 ⌝ }
+    ensures { λ r. ⌜ r ≡ finiteSection (sectionIn (now (initial .entry)) s) ⌝ }
+{
+    let at = s * 24;
+    fields::finite_at(initial, at)
+        & fields::finite_at(initial, at + 8)
+        & fields::finite_at(initial, at + 16)
+}
+
+// 14, of section s: is all finite, and the head not below its floor?
+fn section_fits(initial: &[u8], s: usize) -> bool
+    requires { ⌜ s < length (now initial) / 24 ⌝ }
+    ensures { λ r. ⌜ r ≡ sectionFits (sectionIn (now (initial .entry)) s) ⌝ }
+{
+    if finite_section(initial, s) {
+        let at = s * 24;
+        !(fields::f64_at(initial, at) < fields::f64_at(initial, at + 16))
+    } else {
+        false
+    }
+}
+
+// 14, of each section
+fn initial_fits(initial: &[u8]) -> bool
+    ensures { λ r. ⌜ r ≡ initialFits (now (initial .entry)) ⌝ }
+{
+    let n = initial.len() / 24;
+    let mut s = 0;
+    while s < n {
+        if !section_fits(initial, s) {
+            return false;
+        }
+        s += 1;
+    }
+    true
+}
+
+// 14
+fn initial_right(pipes: &[u8], initial: &[u8]) -> bool
+    requires { ⌜ length (now pipes) ≤ 32768 ⌝ }
+    ensures { λ r. ⌜ r ≡ initialRight (now (pipes .entry)) (now (initial .entry)) ⌝ }
+{
+    (initial.len() == super::pipes::section_count(pipes) * 24) & initial_fits(initial)
+}
+
+// 15, of an entry of a node of this kind: is it finite and in the kind's range?
+fn entry_fits(schedules: &[u8], kind: usize, i: usize) -> bool
+    requires { ⌜ i * 8 + 8 ≤ length (now schedules) ⌝ }
+    ensures { λ r. ⌜ r ≡ entryFits kind (entryIn (now (schedules .entry)) i) ⌝ }
+{
+    if fields::finite_at(schedules, i * 8) {
+        let v = fields::f64_at(schedules, i * 8);
+        (kind < 2) | (!(v < 0.0) & !(1.0 < v))
+    } else {
+        false
+    }
+}
+
+// 15, of the `count` entries from `place` on
+fn schedule_fits(schedules: &[u8], kind: usize, place: usize, count: usize) -> bool
+    requires { ⌜ (place + count) * 8 ≤ length (now schedules) ⌝ }
+    ensures { λ r. ⌜ r ≡ allBelow (λ i. entryFits kind (entryIn (now (schedules .entry)) (place + i))) count ⌝ }
+{
+    let mut i = 0;
+    while i < count {
+        if !entry_fits(schedules, kind, place + i) {
+            return false;
+        }
+        i += 1;
+    }
+    true
+}
+
+// 15, of each node. The place of a schedule is carried along.
+fn schedules_fit(nodes: &[u8], schedules: &[u8]) -> bool
+    requires { ⌜ placeOf (now nodes) (nodeCount (now nodes)) * 8 ≤ length (now schedules) ⌝ }
+    ensures { λ r. ⌜ r ≡ schedulesFit (now (nodes .entry)) (now (schedules .entry)) ⌝ }
+{
+    let n = nodes.len() / 26;
+    let mut place = 0;
+    let mut y = 0;
+    while y < n {
+        let count = super::nodes::schedule_count(nodes, y);
+        if !schedule_fits(schedules, super::nodes::kind(nodes, y), place, count) {
+            return false;
+        }
+        place = place + count;
+        y += 1;
+    }
+    true
+}
+
+// The number of entries in all schedules.
+fn entry_count(nodes: &[u8]) -> usize
+    requires { ⌜ length (now nodes) ≤ 32768 ⌝ }
+    ensures { λ r. ⌜ (r ≡ placeOf (now (nodes .entry)) (nodeCount (now (nodes .entry)))) × (r < 1048576) ⌝ }
+{
+    let n = nodes.len() / 26;
+    let mut place = 0;
+    let mut y = 0;
+    while y < n {
+        place = place + super::nodes::schedule_count(nodes, y);
+        y += 1;
+    }
+    place
+}
+
+// 15
+fn schedules_right(nodes: &[u8], schedules: &[u8]) -> bool
+    requires { ⌜ length (now nodes) ≤ 32768 ⌝ }
+    ensures { λ r. ⌜ r ≡ schedulesRight (now (nodes .entry)) (now (schedules .entry)) ⌝ }
+{
+    if schedules.len() != entry_count(nodes) * 8 {
+        return false;
+    }
+    schedules_fit(nodes, schedules)
+}
+
+// The first of questions 13 to 15 with a no, or 0.
+pub fn first_no(job: &[u8]) -> usize
+    requires { ⌜ firstNo pairQuestions (now job) ≡ 0 ⌝ }
+    ensures { λ r. ⌜ r ≡ firstNo valueQuestions (now (job .entry)) ⌝ }
+{
+    let pipes = super::pairs::table(job, 0);
+    let nodes = super::pairs::table(job, 1);
+    if !friction_right(pipes, super::pairs::table(job, 2)) {
+        return 13;
+    }
+    if !initial_right(pipes, super::pairs::table(job, 3)) {
+        return 14;
+    }
+    if !schedules_right(nodes, super::pairs::table(job, 4)) {
+        return 15;
+    }
+    0
+}
