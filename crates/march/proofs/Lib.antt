@@ -1,0 +1,5 @@
+pub mod Order
+pub mod Accept
+pub mod NodeSums
+pub mod Held
+pub mod Walk
