@@ -9,3 +9,11 @@ pub mod Stops
 pub mod Theorem
 pub mod Tied
 pub mod InRows
+pub mod Opened
+pub mod Figures
+pub mod Sharp
+pub mod SameBits
+pub mod RowLaws
+pub mod Laid
+pub mod StepLaws
+pub mod RunLaws

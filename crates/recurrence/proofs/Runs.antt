@@ -7,7 +7,7 @@ use lib.ListN.{length}
 use Rattle.job.specs.Job.{Job, laid, sections}
 use Rattle.recurrence.specs.State.{State, startState}
 use Rattle.recurrence.specs.Step.{inputs, newPoint, advanced}
-use Rattle.recurrence.specs.Scan.{Fault, none, fault, scan, Outcome, finished, stopped, judged, step, acceptable}
+use Rattle.recurrence.specs.Scan.{Fault, none, fault, scan, Outcome, finished, stopped, outcomeOf, step, acceptable}
 use Rattle.recurrence.specs.Run.{Run, Result, refused, ran, Ending, completed, stop, ask, Call, onward, steps, withinLimit, runOn, started, leftBy, playedFrom, played, oneMore, finishedOf, ifRan, stepsBy, stepsDoneFrom, stepsDone}
 use Rattle.recurrence.proofs.Tests.{cond-all}
 use Rattle.recurrence.proofs.Listed.{length-listed}
@@ -19,10 +19,10 @@ Reached j zero st = st ≡ startState j
 Reached j (suc m) st = (old : State) × Reached j m old × (step j (suc m) old ≡ finished st)
 
 pub finished-advanced : (j : Job) (n : ℕ) (old st : State) → step j n old ≡ finished st → advanced j n old ≡ st
-unfolding step judged
+unfolding step outcomeOf
 finished-advanced j n old st e = go (scan j (advanced j n old)) e
   where
-    go : (o : Fault) → judged (advanced j n old) o ≡ finished st → advanced j n old ≡ st
+    go : (o : Fault) → outcomeOf (advanced j n old) o ≡ finished st → advanced j n old ≡ st
     go none e = cc
     go (fault c s) e = cc
 

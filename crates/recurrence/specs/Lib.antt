@@ -6,3 +6,6 @@ pub mod Calls
 pub mod Paths
 pub mod Demand
 pub mod Lent
+pub mod Figures
+pub mod OwnFigures
+pub mod Sharp

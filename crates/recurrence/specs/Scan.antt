@@ -41,13 +41,13 @@ pub data Outcome : Type 0 where
   finished : State → Outcome
   stopped : Cause → ℕ → Outcome
 
-unfoldable pub judged : State → Fault → Outcome
-judged new none = finished new
-judged new (fault c s) = stopped c s
+unfoldable pub outcomeOf : State → Fault → Outcome
+outcomeOf new none = finished new
+outcomeOf new (fault c s) = stopped c s
 
 -- step n, counted from 1: "A stopped step changes no state or envelope."
 unfoldable pub step : Job → ℕ → State → Outcome
-step j n st = let new = advanced j n st in judged new (scan j new)
+step j n st = let new = advanced j n st in outcomeOf new (scan j new)
 
 -- question 22 at one section: "are heads, flows and envelopes finite .., no head below its floor?"
 unfoldable pub acceptableAt : Float → Point → Bool

@@ -38,11 +38,11 @@ along equation f st l i s =
     equation (l .pipe .S) (f .friction (l .reach + i)) (old .head) (old .flow)
 
 -- CP of section i + 1, and CM of section i
-unfoldable pub cpBelow : Inputs → State → Laid → ℕ → Float
-cpBelow f st l i = along fromAbove f st l i i
+unfoldable pub cpAfter : Inputs → State → Laid → ℕ → Float
+cpAfter f st l i = along fromAbove f st l i i
 
-unfoldable pub cmAbove : Inputs → State → Laid → ℕ → Float
-cmAbove f st l i = along fromBelow f st l i (suc i)
+unfoldable pub cmBefore : Inputs → State → Laid → ℕ → Float
+cmBefore f st l i = along fromBelow f st l i (suc i)
 
 -- K at a pipe's finish and at its start: "section 0, which has CM", "section n after n reaches, which has CP"
 unfoldable pub kAtFinish : Inputs → State → Laid → Float
@@ -81,20 +81,20 @@ located (l ∷ ls) s =
     let later = located ls s in
     cond (leb (l .first) s && leb s (l .first + l .pipe .reaches)) (place l (s - l .first)) later
 
-unfoldable pub atFinish : List Laid → Inputs → State → Laid → HeadFlow
-atFinish ls f st l = finishEnd (l .pipe .S) (kAtFinish f st l) (headAt ls f st (l .pipe .finish))
+unfoldable pub newAtFinish : List Laid → Inputs → State → Laid → HeadFlow
+newAtFinish ls f st l = finishEnd (l .pipe .S) (kAtFinish f st l) (headAt ls f st (l .pipe .finish))
 
-unfoldable pub atStart : List Laid → Inputs → State → Laid → HeadFlow
-atStart ls f st l = startEnd (l .pipe .S) (kAtStart f st l) (headAt ls f st (l .pipe .start))
+unfoldable pub newAtStart : List Laid → Inputs → State → Laid → HeadFlow
+newAtStart ls f st l = startEnd (l .pipe .S) (kAtStart f st l) (headAt ls f st (l .pipe .start))
 
 -- section i + 1 of a pipe, between its ends
-unfoldable pub between : Inputs → State → Laid → ℕ → HeadFlow
-between f st l i = inner (l .pipe .S) (cpBelow f st l i) (cmAbove f st l (suc i))
+unfoldable pub newBetween : Inputs → State → Laid → ℕ → HeadFlow
+newBetween f st l i = inner (l .pipe .S) (cpAfter f st l i) (cmBefore f st l (suc i))
 
 -- the new head and flow at offset i of a laid pipe, and at a section
 unfoldable pub newIn : List Laid → Inputs → State → Laid → ℕ → HeadFlow
-newIn ls f st l zero = atStart ls f st l
-newIn ls f st l (suc i) = cond (eqb (suc i) (l .pipe .reaches)) (atFinish ls f st l) (between f st l i)
+newIn ls f st l zero = newAtStart ls f st l
+newIn ls f st l (suc i) = cond (eqb (suc i) (l .pipe .reaches)) (newAtFinish ls f st l) (newBetween f st l i)
 
 unfoldable pub newAt : List Laid → Inputs → State → Place → HeadFlow
 newAt ls f st nowhere = record { head = zero64; flow = zero64 }

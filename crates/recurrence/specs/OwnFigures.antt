@@ -1,0 +1,194 @@
+-- Our own figures of the recurrence, proved in proofs/Figures.antt. They were worked out apart from the definitions, in IEEE arithmetic, one rounding
+-- an operation, and chosen so that a slip in a definition changes at least one. Definitions only.
+use mathlib.Core.Path.{_≡_}
+use mathlib.Core.List.{List, [], _∷_, map}
+use Prim.Native.Nat.{ℕ}
+use lib.ListN.{set, take, replicate}
+use lib.Ieee.{Float, nan, binary64, neg, toBits}
+use Rattle.fields.specs.Real.{zero64, infinity64}
+use Rattle.wave.specs.Figures.{num, halved, power}
+use Rattle.job.specs.Job.{Job, Pipe, Kind, junction, reservoir, valve, ScheduledNode, Initial}
+use Rattle.job.proofs.Figures.{jobQ, jobOfAllKinds}
+use Rattle.recurrence.specs.State.{Point, startState}
+use Rattle.recurrence.specs.Run.{Answer, answerOf, started, steps, leftBy}
+use Rattle.recurrence.specs.Calls.{Rows, Called, startCall, runOnCall}
+use Rattle.recurrence.specs.Figures.{jobQOnFloor, jobQClosing, jobQTooOpen, sixRows, lentSevens, ranOn, refusal, done}
+
+-- ---- what the calls leave in the rows
+
+-- three entries, and the seven that was lent past them
+abbrev pub row : Float → Float → Float → List Float
+row x y z = x ∷ y ∷ z ∷ num 7 ∷ []
+
+abbrev pub cleared : List Float
+cleared = row (num 0) (num 0) (num 0)
+
+pub record RowFigures : Type 0 where
+  pub start : startCall jobQ lentSevens ≡ record { rows = sixRows (row (num 10) (num 10) (num 10)) (row (num 4) (num 4) (num 4)) (row (num 10) (num 10) (num 10)) (row (num 10) (num 10) (num 10)) cleared cleared; answer = done 0 }
+  -- document 01's listing of job Q
+  pub one-step : ranOn jobQ 1 ≡ record { rows = sixRows (row (num 10) (num 10) (num 14)) (row (num 4) (num 4) (num 0)) (row (num 10) (num 10) (num 14)) (row (num 10) (num 10) (num 10)) cleared cleared; answer = done 1 }
+  -- the minimum is lowered
+  pub five-steps : ranOn jobQ 5 ≡ record { rows = sixRows (row (num 10) (num 10) (num 6)) (row (neg (num 4)) (neg (num 4)) (num 0)) (row (num 10) (num 14) (num 14)) (row (num 10) (num 10) (num 6)) cleared cleared; answer = done 5 }
+  -- a stop at the fifth step leaves the fourth's state and envelopes
+  pub stop : ranOn jobQOnFloor 9 ≡ record { rows = sixRows (row (num 10) (num 10) (num 14)) (row (neg (num 4)) (neg (num 4)) (num 0)) (row (num 10) (num 14) (num 14)) (row (num 10) (num 10) (num 10)) cleared cleared; answer = record { number = 41; steps = 4; section = 2 } }
+  -- no step: the spare rows are cleared
+  pub no-step : runOnCall jobQ 3 0 lentSevens ≡ record { rows = record { heads = lentSevens .heads; flows = lentSevens .flows; highest = lentSevens .highest; lowest = lentSevens .lowest; spareHeads = cleared; spareFlows = cleared }; answer = done 3 }
+
+-- ---- refusals: the rows as they were, and the number alone
+
+abbrev pub refusedBy : ℕ → Rows → Called
+refusedBy q lent = record { rows = lent; answer = refusal q }
+
+-- rows of four sevens, but for one that has two
+abbrev pub long : List Float
+long = replicate 4 (num 7)
+
+abbrev pub short : List Float
+short = replicate 2 (num 7)
+
+-- rows of four sevens with x for one of them
+abbrev pub withHead : Float → Rows
+withHead x = sixRows (set long 2 x) long long long long long
+
+pub record RefusalFigures : Type 0 where
+  pub short-heads : runOnCall jobQ 0 1 (sixRows short long long long long long) ≡ refusedBy 20 (sixRows short long long long long long)
+  pub short-flows : runOnCall jobQ 0 1 (sixRows long short long long long long) ≡ refusedBy 20 (sixRows long short long long long long)
+  pub short-highest : runOnCall jobQ 0 1 (sixRows long long short long long long) ≡ refusedBy 20 (sixRows long long short long long long)
+  pub short-lowest : runOnCall jobQ 0 1 (sixRows long long long short long long) ≡ refusedBy 20 (sixRows long long long short long long)
+  pub short-spare-heads : runOnCall jobQ 0 1 (sixRows long long long long short long) ≡ refusedBy 20 (sixRows long long long long short long)
+  pub short-spare-flows : runOnCall jobQ 0 1 (sixRows long long long long long short) ≡ refusedBy 20 (sixRows long long long long long short)
+  pub short-start : startCall jobQ (sixRows long long long long long short) ≡ refusedBy 20 (sixRows long long long long long short)
+  -- three entries are enough for three sections
+  pub just-enough : runOnCall jobQ 0 0 (let r = replicate 3 (num 7) in sixRows r r r r r r) .answer ≡ done 0
+  -- question 21
+  pub m-too-great : runOnCall jobQ 1_000_001 0 lentSevens ≡ refusedBy 21 lentSevens
+  pub N-too-great : runOnCall jobQ 0 1_000_001 lentSevens ≡ refusedBy 21 lentSevens
+  pub both-too-great : runOnCall jobQ 999_999 2 lentSevens ≡ refusedBy 21 lentSevens
+  pub both-great : runOnCall jobQ 999_999 1 lentSevens .answer ≡ done 1_000_000
+  -- question 22: each row, and the floor; past the section count nothing is asked
+  pub head-not-finite : runOnCall jobQ 0 0 (withHead nan) ≡ refusedBy 22 (withHead nan)
+  pub head-below-floor : runOnCall jobQ 0 0 (withHead (neg (num 1))) ≡ refusedBy 22 (withHead (neg (num 1)))
+  pub head-on-floor : runOnCall jobQ 0 0 (withHead (neg (num 0))) .answer ≡ done 0
+  pub flow-not-finite : runOnCall jobQ 0 0 (sixRows long (set long 2 infinity64) long long long long) .answer ≡ refusal 22
+  pub highest-not-finite : runOnCall jobQ 0 0 (sixRows long long (set long 2 infinity64) long long long) .answer ≡ refusal 22
+  pub lowest-not-finite : runOnCall jobQ 0 0 (sixRows long long long (set long 2 (neg infinity64)) long long) .answer ≡ refusal 22
+  pub spare-not-asked : runOnCall jobQ 0 0 (sixRows long long long long (set long 2 nan) long) .answer ≡ done 0
+  pub past-the-count : runOnCall jobQ 0 0 (let r = set long 3 nan in sixRows r r r r r r) .answer ≡ done 0
+  -- "The first no decides": 1 to 15, 20, 21, 22
+  pub fifteen-before-20 : runOnCall jobQTooOpen 0 1 (sixRows short long long long long long) ≡ refusedBy 15 (sixRows short long long long long long)
+  pub fifteen-before-20-start : startCall jobQTooOpen (sixRows short long long long long long) ≡ refusedBy 15 (sixRows short long long long long long)
+  pub one-before-20 : startCall (take 45 jobQ) (sixRows short long long long long long) .answer ≡ refusal 1
+  pub twenty-before-21 : runOnCall jobQ 1_000_001 0 (sixRows short long long long long long) .answer ≡ refusal 20
+  pub twenty-one-before-22 : runOnCall jobQ 1_000_001 0 (withHead nan) .answer ≡ refusal 21
+
+-- ---- the steps
+
+-- a row of the points after N steps from the start, as bit patterns, and the answer to a run-on of N
+unfoldable pub after : Job → ℕ → (Point → Float) → List ℕ
+after j N field = map (λ p. toBits binary64 (field p)) (leftBy (started j) (steps j N 0 (startState j)) .state .points)
+
+unfoldable pub answerAfter : Job → ℕ → Answer
+answerAfter j N = answerOf (steps j N 0 (startState j))
+
+abbrev pub pipe : ℕ → ℕ → ℕ → Float → Pipe
+pipe s f n S = record { start = s; finish = f; reaches = n; S = S }
+
+abbrev pub node : Kind → List Float → ScheduledNode
+node k vs = record { kind = k; schedule = vs }
+
+abbrev pub initially : Float → Float → Float → Initial
+initially H Q F = record { head = H; flow = Q; floor = F }
+
+-- Pipes of one reach and of three from a reservoir over a junction to a valve: four R, two steps of each schedule.
+unfoldable pub twoPipes : Job
+twoPipes =
+    let low = neg (num 100) in
+    record {
+      pipes = pipe 0 1 1 (num 1) ∷ pipe 1 2 3 (num 2) ∷ [];
+      nodes = node reservoir (num 12 ∷ num 11 ∷ []) ∷ node junction (halved 1 1 ∷ []) ∷ node (valve (num 2) (num 3)) (num 1 ∷ halved 1 1 ∷ []) ∷ [];
+      friction = halved 1 2 ∷ halved 1 1 ∷ num 1 ∷ num 2 ∷ [];
+      initial =
+          initially (num 10) (num 4) low
+          ∷ initially (num 9) (num 3) low
+          ∷ initially (num 9) (num 2) low
+          ∷ initially (num 8) (num 1) low
+          ∷ initially (num 7) (num 2) low
+          ∷ initially (num 6) (neg (num 3)) low
+          ∷ [];
+    }
+
+-- Three pipes that end at one junction, whose K are 2^53, 1 and 1: their sum turns on its order.
+unfoldable pub threePipes : Job
+threePipes =
+    let none = initially (num 0) (num 0) (num 0) in
+    record {
+      pipes = pipe 1 0 1 (num 1) ∷ pipe 2 0 1 (num 1) ∷ pipe 3 0 1 (num 2) ∷ [];
+      nodes = node junction (num 0 ∷ []) ∷ node reservoir (num 0 ∷ []) ∷ node reservoir (num 0 ∷ []) ∷ node reservoir (num 0 ∷ []) ∷ [];
+      friction = num 0 ∷ num 0 ∷ num 0 ∷ [];
+      initial = initially (num 0) (power 53) (num 0) ∷ none ∷ initially (num 0) (num 1) (num 0) ∷ none ∷ initially (num 0) (num 1) (num 0) ∷ none ∷ [];
+    }
+
+-- One pipe of two reaches from a reservoir at 5 to a junction, no friction.
+abbrev pub onePipe : List Initial → Job
+onePipe initial = record {
+  pipes = pipe 0 1 2 (num 1) ∷ [];
+  nodes = node reservoir (num 5 ∷ []) ∷ node junction (num 0 ∷ []) ∷ [];
+  friction = num 0 ∷ num 0 ∷ [];
+  initial = initial;
+}
+
+-- Section 1 comes to head 0 under its floor 1, with a flow that is not finite.
+unfoldable pub bothFaults : Job
+bothFaults = onePipe (initially (num 0) (power 1023) (num 0) ∷ initially (num 2) (num 0) (num 1) ∷ initially (num 0) (power 1023) (num 0) ∷ [])
+
+-- Section 1 comes to head -1 under its floor 0, and section 2's head is not finite.
+unfoldable pub faultsUpward : Job
+faultsUpward = onePipe (initially (num 1) (num 0) (num 0) ∷ initially (power 1023) (power 1023) (num 0) ∷ initially (num 0) (num 3) (num 0) ∷ [])
+
+-- Reservoirs at -0, and heads that begin at +0.
+unfoldable pub minusZero : Job
+minusZero =
+    let zero = initially (num 0) (num 0) (neg (num 1)) in
+    record {
+      pipes = pipe 0 1 1 (num 1) ∷ [];
+      nodes = node reservoir (neg (num 0) ∷ []) ∷ node reservoir (neg (num 0) ∷ []) ∷ [];
+      friction = num 0 ∷ [];
+      initial = zero ∷ zero ∷ [];
+    }
+
+abbrev pub head : Point → Float
+head p = p .head
+
+abbrev pub flow : Point → Float
+flow p = p .flow
+
+abbrev pub highest : Point → Float
+highest p = p .highest
+
+abbrev pub lowest : Point → Float
+lowest p = p .lowest
+
+pub record StepFigures : Type 0 where
+  -- the valve moves at step 2, not before, and stays: entry n at step n, the last afterwards
+  pub closing-1 : ranOn jobQClosing 1 .rows .heads ≡ row (num 10) (num 10) (num 10)
+  pub closing-2 : ranOn jobQClosing 2 .rows .heads ≡ row (num 10) (num 10) (num 14)
+  pub closing-3 : ranOn jobQClosing 3 .rows .heads ≡ row (num 10) (num 14) (num 14)
+  -- and a run-on with m = 1 begins at step 2
+  pub closing-from-1 : runOnCall jobQClosing 1 1 (startCall jobQClosing lentSevens .rows) .rows .heads ≡ row (num 10) (num 10) (num 14)
+  -- R of each reach, S of each pipe, each kind's value of the step
+  pub heads-1 : after twoPipes 1 head ≡ 0x4028_0000_0000_0000 ∷ 0x4020_aaaa_aaaa_aaab ∷ 0x4020_aaaa_aaaa_aaab ∷ 0x4021_0000_0000_0000 ∷ 0x400a_0000_0000_0000 ∷ 0x400b_0e44_3234_05ac ∷ []
+  pub flows-1 : after twoPipes 1 flow ≡ 0x400e_0000_0000_0000 ∷ 0x3ffa_aaaa_aaaa_aaa8 ∷ 0x3ff2_aaaa_aaaa_aab0 ∷ 0x3ff0_0000_0000_0000 ∷ 0x4023_0000_0000_0000 ∷ 0x3ff3_c6ef_372f_e950 ∷ []
+  pub heads-2 : after twoPipes 2 head ≡ 0x4026_0000_0000_0000 ∷ 0x4022_d2aa_aaaa_aaab ∷ 0x4022_d2aa_aaaa_aaab ∷ 0x403a_19c7_1c71_c71c ∷ 0x4019_9566_4b4e_0882 ∷ 0xc053_706e_c89f_940c ∷ []
+  pub flows-2 : after twoPipes 2 flow ≡ 0x400d_1c71_c71c_71c6 ∷ 0x4006_9555_5555_5554 ∷ 0x4002_9555_5555_5558 ∷ 0xc041_8638_e38e_38e4 ∷ 0x4010_d533_6963_eefc ∷ 0xc021_f913_7606_bf40 ∷ []
+  pub highest-2 : after twoPipes 2 highest ≡ 0x4028_0000_0000_0000 ∷ 0x4022_d2aa_aaaa_aaab ∷ 0x4022_d2aa_aaaa_aaab ∷ 0x403a_19c7_1c71_c71c ∷ 0x401c_0000_0000_0000 ∷ 0x4018_0000_0000_0000 ∷ []
+  pub lowest-2 : after twoPipes 2 lowest ≡ 0x4024_0000_0000_0000 ∷ 0x4020_aaaa_aaaa_aaab ∷ 0x4020_aaaa_aaaa_aaab ∷ 0x4020_0000_0000_0000 ∷ 0x400a_0000_0000_0000 ∷ 0xc053_706e_c89f_940c ∷ []
+  -- the sums rise by pipe number
+  pub rising : after threePipes 1 head ≡ 0 ∷ 0x4320_0000_0000_0000 ∷ 0 ∷ 0x4320_0000_0000_0000 ∷ 0 ∷ 0x4320_0000_0000_0000 ∷ []
+  -- "At one section 40 precedes 41", and sections go upward
+  pub both-faults : answerAfter bothFaults 1 ≡ record { number = 40; steps = 0; section = 1 }
+  pub faults-upward : answerAfter faultsUpward 1 ≡ record { number = 41; steps = 0; section = 1 }
+  pub all-kinds : runOnCall jobOfAllKinds 0 7 (startCall jobOfAllKinds (let r = replicate 6 zero64 in sixRows r r r r r r) .rows) .answer ≡ record { number = 41; steps = 0; section = 3 }
+  -- -0 is neither greater nor less than +0
+  pub zero-head : after minusZero 1 head ≡ 0x8000_0000_0000_0000 ∷ 0x8000_0000_0000_0000 ∷ []
+  pub zero-highest : after minusZero 1 highest ≡ 0 ∷ 0 ∷ []
+  pub zero-lowest : after minusZero 1 lowest ≡ 0 ∷ 0 ∷ []

@@ -1,0 +1,27 @@
+-- What the code reads at a place of a row is the row's entry there: within a list no default is read. Assumes nothing.
+use mathlib.Core.Path.{_≡_, refl, _∙_, ap₂}
+use mathlib.Core.List.{List, [], _∷_}
+use Prim.Native.Nat.{ℕ, zero, suc, _+_, _<_, _≤_}
+use native.Mathlib.Nat.{le-of-suc-le-suc, not-suc-le-zero}
+use native.Mathlib.Omega.{arith}
+use lib.ListN.{length, getD, set}
+use lib.Ieee.{Float, nan}
+use Rattle.fields.specs.Real.{zero64}
+use Rattle.loops.proofs.Fill.{Upto, upto-step, upto-read}
+use Rattle.rows.specs.Rows.{entry}
+
+pub getD-within : {A : Type 0} (l : List A) (k : ℕ) (d e : A) → k < length l → getD l k d ≡ getD l k e
+getD-within [] k d e h = absurd (not-suc-le-zero h)
+getD-within (a ∷ l) zero d e h = refl
+getD-within (a ∷ l) (suc k) d e h = getD-within l k d e (le-of-suc-le-suc h)
+
+pub read : (row : List Float) (s : ℕ) → s < length row → getD row s nan ≡ entry row s
+read row s h = getD-within row s nan zero64 h
+
+-- A turn of a loop that stores g of a row's own old entry and of another row's: the entry that it reads is still the old one.
+pub own-step :
+    (g : Float → Float → Float) (other : List Float) {old new : List Float} {n i : ℕ} {v : Float}
+    → Upto (λ s. g (entry old s) (entry other s)) old 0 n i new → i < n → n ≤ length old → n ≤ length other
+    → v ≡ g (getD new i nan) (getD other i nan) → Upto (λ s. g (entry old s) (entry other s)) old 0 n (i + 1) (set new i v)
+own-step g other {old} {new} {n} {i} u l a b e =
+    upto-step u l (omega arith) (e ∙ ap₂ g (upto-read u nan i (omega arith) ∙ read old i (omega arith)) (read other i (omega arith)))

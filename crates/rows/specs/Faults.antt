@@ -1,0 +1,66 @@
+-- The scan and question 22 over lent rows: what they ask of section s, by the recurrence's own definitions. Definitions only.
+use mathlib.Core.Path.{_≡_}
+use mathlib.Core.Bool.{Bool, true, false, cond}
+use mathlib.Core.List.{List}
+use Prim.Native.Nat.{ℕ, _*_, _≤_}
+use lib.ListN.{length}
+use lib.Ieee.{Float}
+use Rattle.loops.specs.Loops.{firstBelow}
+use Rattle.fields.specs.Real.{zero64}
+use Rattle.job.specs.Format.{sectionIn}
+use Rattle.job.specs.Questions.{initialFits}
+use Rattle.recurrence.specs.State.{Point}
+use Rattle.recurrence.specs.Scan.{Fault, none, fault, notFinite, parted, faultOf, earlier, acceptableAt}
+use Rattle.rows.specs.declared.found.Scan.{Scan}
+use Rattle.rows.specs.declared.found.Scan.the-variants.{Sound, NotFinite, Parted}
+use Rattle.rows.specs.Rows.{entry}
+
+-- the floor head of section s, in the bytes of table 4
+abbrev pub floorIn : List ℕ → ℕ → Float
+floorIn initial s = sectionIn initial s .floor
+
+-- a head and a flow as a point: a scan looks at no envelope, so +0 stands for both
+abbrev pub headFlowPoint : Float → Float → Point
+headFlowPoint head flow = record { head = head; flow = flow; highest = zero64; lowest = zero64 }
+
+-- the fault of section s
+unfoldable pub faultAt : List ℕ → List Float → List Float → ℕ → Fault
+faultAt initial heads flows s = faultOf (floorIn initial s) s (headFlowPoint (entry heads s) (entry flows s))
+
+-- whether there is no fault
+unfoldable pub isSound : Fault → Bool
+isSound none = true
+isSound (fault c s) = false
+
+-- 1 for a fault, else 0
+abbrev pub counted : Fault → ℕ
+counted f = cond (isSound f) 0 1
+
+unfoldable pub soundAt : List ℕ → List Float → List Float → ℕ → Bool
+soundAt initial heads flows s = isSound (faultAt initial heads flows s)
+
+-- "Then scans sections upward": the first fault among the first n sections
+unfoldable pub firstFault : List ℕ → List Float → List Float → ℕ → Fault
+firstFault initial heads flows n = firstBelow earlier none (faultAt initial heads flows) n
+
+-- the fault that an answer of the code stands for
+unfoldable pub foundFault : Scan → Fault
+foundFault Sound = none
+foundFault (NotFinite s) = fault notFinite s
+foundFault (Parted s) = fault parted s
+
+-- Table 4, in which question 14 has a yes, and the rows of heads and flows have the first n sections.
+pub record Covered (initial : List ℕ) (n : ℕ) (heads flows : List Float) : Type 0 where
+  pub table-long : n * 24 ≤ length initial
+  pub table-fits : initialFits initial ≡ true
+  pub heads-long : n ≤ length heads
+  pub flows-long : n ≤ length flows
+
+-- what section s holds in four rows
+abbrev pub pointOf : List Float → List Float → List Float → List Float → ℕ → Point
+pointOf heads flows highest lowest s =
+    record { head = entry heads s; flow = entry flows s; highest = entry highest s; lowest = entry lowest s }
+
+-- question 22 at section s
+unfoldable pub acceptableIn : List ℕ → List Float → List Float → List Float → List Float → ℕ → Bool
+acceptableIn initial heads flows highest lowest s = acceptableAt (floorIn initial s) (pointOf heads flows highest lowest s)

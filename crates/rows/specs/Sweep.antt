@@ -1,0 +1,35 @@
+-- The inner sections of a pipe after a step, from rows cut to the pipe: reach i joins its sections i and i + 1. Definitions only.
+use mathlib.Core.Path.{_≡_}
+use mathlib.Core.Bool.{true}
+use mathlib.Core.List.{List}
+use Prim.Native.Nat.{ℕ, suc, _+_, _-_, _*_, _≤_}
+use lib.ListN.{length}
+use lib.Ieee.{Float}
+use lib.Ieee.Scale.{finite}
+use Rattle.loops.specs.Loops.{allBelow}
+use Rattle.wave.specs.declared.HeadFlow.{HeadFlow}
+use Rattle.wave.specs.Wave.{fromAbove, fromBelow, inner}
+use Rattle.job.specs.Format.{rIn}
+use Rattle.rows.specs.Rows.{entry}
+
+-- Section i + 1 of a pipe, which has reach i above it and reach i + 1 below it. "Q and H are the neighbour's old values, R belongs to the reach
+-- between." `friction` is the pipe's own part of table 3.
+unfoldable pub innerAt : List ℕ → Float → List Float → List Float → ℕ → HeadFlow
+innerAt friction S heads flows i =
+    inner S
+    (fromAbove S (rIn friction i) (entry heads i) (entry flows i))
+    (fromBelow S (rIn friction (suc i)) (entry heads (suc (suc i))) (entry flows (suc (suc i))))
+
+unfoldable pub innerHead : List ℕ → Float → List Float → List Float → ℕ → Float
+innerHead friction S heads flows i = innerAt friction S heads flows i .head
+
+unfoldable pub innerFlow : List ℕ → Float → List Float → List Float → ℕ → Float
+innerFlow friction S heads flows i = innerAt friction S heads flows i .flow
+
+-- Rows cut to one pipe: as many sections as `heads` has, a reach fewer, and each R finite.
+pub record CutToPipe (friction : List ℕ) (heads flows newHeads newFlows : List Float) : Type 0 where
+  pub flows-long : length heads ≤ length flows
+  pub new-heads-long : length heads ≤ length newHeads
+  pub new-flows-long : length heads ≤ length newFlows
+  pub friction-long : length heads * 8 ≤ length friction + 8
+  pub friction-finite : allBelow (λ i. finite (rIn friction i)) (length heads - 1) ≡ true

@@ -1,0 +1,254 @@
+// Loops over lent rows of f64 numbers, one number a section: the kernels of start and run-on.
+ghost use mathlib.Core.Path.{_≡_};
+ghost use mathlib.Core.Bool.{true};
+ghost use Prim.Native.Nat.{ℕ, _+_, _-_, _*_, _<_, _≤_};
+ghost use lib.Dec.{eqb};
+ghost use lib.ListN.{length};
+ghost use lib.Ieee.Scale.{finite};
+ghost use Rattle.fields.specs.Real.{zero64};
+ghost use Rattle.loops.specs.Loops.{fill, allBelow};
+ghost use Rattle.job.specs.Format.{rIn};
+ghost use Rattle.job.specs.Questions.{initialFits};
+ghost use Rattle.recurrence.specs.Scan.{faultOf, acceptableAt};
+ghost use Rattle.rows.specs.Rows as row;
+ghost use Rattle.rows.specs.Faults as scan;
+ghost use Rattle.rows.specs.Sweep as pipe;
+use wave::HeadFlow;
+
+pub mod found;
+
+pub use found::Scan;
+
+// ---- whole rows
+
+// The first n numbers of a row into another.
+pub fn copy_row(src: &[f64], dst: &mut [f64], n: usize)
+    requires { ⌜ (n ≤ length (now src)) × (n ≤ length (now dst)) ⌝ }
+    ensures { λ _. ⌜ now (dst .exit) ≡ fill (row.entry (now (src .entry))) (now (dst .entry)) 0 n ⌝ }
+{
+    let mut i = 0;
+    while i < n {
+        dst[i] = src[i];
+        i += 1;
+    }
+}
+
+// +0 into the first n numbers of a row.
+pub fn clear_row(dst: &mut [f64], n: usize)
+    requires { ⌜ n ≤ length (now dst) ⌝ }
+    ensures { λ _. ⌜ now (dst .exit) ≡ fill (λ (s : ℕ). zero64) (now (dst .entry)) 0 n ⌝ }
+{
+    let mut i = 0;
+    while i < n {
+        dst[i] = 0.0;
+        i += 1;
+    }
+}
+
+// The greater of the highest head so far and a head.
+fn greater(highest: f64, head: f64) -> f64
+    ensures { λ r. ⌜ r ≡ row.raised highest head ⌝ }
+{
+    if highest < head { head } else { highest }
+}
+
+// The lesser of the lowest head so far and a head.
+fn lesser(lowest: f64, head: f64) -> f64
+    ensures { λ r. ⌜ r ≡ row.lowered lowest head ⌝ }
+{
+    if head < lowest { head } else { lowest }
+}
+
+// The upper envelope over the first n sections. It stores always, so that the loop has no branch.
+pub fn raise(highs: &mut [f64], heads: &[f64], n: usize)
+    requires { ⌜ (n ≤ length (now highs)) × (n ≤ length (now heads)) ⌝ }
+    ensures { λ _. ⌜ now (highs .exit) ≡ fill (row.raisedAt (now (highs .entry)) (now (heads .entry))) (now (highs .entry)) 0 n ⌝ }
+{
+    let mut i = 0;
+    while i < n {
+        highs[i] = greater(highs[i], heads[i]);
+        i += 1;
+    }
+}
+
+// The lower envelope over the first n sections.
+pub fn lower(lows: &mut [f64], heads: &[f64], n: usize)
+    requires { ⌜ (n ≤ length (now lows)) × (n ≤ length (now heads)) ⌝ }
+    ensures { λ _. ⌜ now (lows .exit) ≡ fill (row.loweredAt (now (lows .entry)) (now (heads .entry))) (now (lows .entry)) 0 n ⌝ }
+{
+    let mut i = 0;
+    while i < n {
+        lows[i] = lesser(lows[i], heads[i]);
+        i += 1;
+    }
+}
+
+// ---- the scan
+
+// The floor head of section s, from the bytes of table 4.
+fn floor_at(initial: &[u8], s: usize) -> f64
+    requires { ⌜ (s * 24 + 24 ≤ length (now initial)) × (initialFits (now initial) ≡ true) ⌝ }
+    ensures { λ r. ⌜ r ≡ scan.floorIn (now (initial .entry)) s ⌝ }
+{
+    fields::f64_at(initial, s * 24 + 16)
+}
+
+// 1 for a section with a fault, else 0, without a branch: x - x is +0 where x is finite, else a NaN.
+fn unsound(head: f64, flow: f64, floor: f64) -> u64
+    ensures { λ r. ⌜ (r ≤ 1) × ((s : ℕ) → r ≡ scan.counted (faultOf floor s (scan.headFlowPoint head flow))) ⌝ }
+{
+    let sound = (head - head == flow - flow) & !(head < floor);
+    if sound { 0 } else { 1 }
+}
+
+// How many of the first n sections have a fault: counted, so that the loop has no branch.
+pub fn faults(heads: &[f64], flows: &[f64], initial: &[u8], n: usize) -> u64
+    requires { ⌜ scan.Covered (now initial) n (now heads) (now flows) ⌝ }
+    ensures { λ r. ⌜ eqb r 0 ≡ allBelow (scan.soundAt (now (initial .entry)) (now (heads .entry)) (now (flows .entry))) n ⌝ }
+{
+    let mut bad: u64 = 0;
+    let mut i = 0;
+    while i < n {
+        bad = bad + unsound(heads[i], flows[i], floor_at(initial, i));
+        i += 1;
+    }
+    bad
+}
+
+// What section s shows, by its head, flow and floor: 40 before 41.
+fn fault_of(head: f64, flow: f64, floor: f64, s: usize) -> Scan
+    ensures { λ r. ⌜ scan.foundFault r ≡ faultOf floor s (scan.headFlowPoint head flow) ⌝ }
+{
+    if !fields::is_finite(head) {
+        return Scan::NotFinite(s);
+    }
+    if !fields::is_finite(flow) {
+        return Scan::NotFinite(s);
+    }
+    if head < floor {
+        return Scan::Parted(s);
+    }
+    Scan::Sound
+}
+
+// The first of the first n sections that has a fault.
+pub fn first_fault(heads: &[f64], flows: &[f64], initial: &[u8], n: usize) -> Scan
+    requires { ⌜ scan.Covered (now initial) n (now heads) (now flows) ⌝ }
+    ensures { λ r. ⌜ scan.foundFault r ≡ scan.firstFault (now (initial .entry)) (now (heads .entry)) (now (flows .entry)) n ⌝ }
+{
+    let mut s = 0;
+    while s < n {
+        let found = fault_of(heads[s], flows[s], floor_at(initial, s), s);
+        match found {
+            Scan::Sound => {}
+            Scan::NotFinite(_) => return found,
+            Scan::Parted(_) => return found,
+        }
+        s += 1;
+    }
+    Scan::Sound
+}
+
+// The scan that a step ends with: the faults are counted, and the first is looked for only where there is one.
+pub fn scan(heads: &[f64], flows: &[f64], initial: &[u8], n: usize) -> Scan
+    requires { ⌜ scan.Covered (now initial) n (now heads) (now flows) ⌝ }
+    ensures { λ r. ⌜ scan.foundFault r ≡ scan.firstFault (now (initial .entry)) (now (heads .entry)) (now (flows .entry)) n ⌝ }
+{
+    if faults(heads, flows, initial, n) == 0 {
+        return Scan::Sound;
+    }
+    first_fault(heads, flows, initial, n)
+}
+
+// ---- question 22
+
+// Question 22 at one section, by what it holds and its floor.
+fn acceptable_at(head: f64, flow: f64, highest: f64, lowest: f64, floor: f64) -> bool
+    ensures { λ r. ⌜ r ≡ acceptableAt floor record { head = head; flow = flow; highest = highest; lowest = lowest } ⌝ }
+{
+    if !fields::is_finite(head) {
+        return false;
+    }
+    if !fields::is_finite(flow) {
+        return false;
+    }
+    if !fields::is_finite(highest) {
+        return false;
+    }
+    if !fields::is_finite(lowest) {
+        return false;
+    }
+    !(head < floor)
+}
+
+// Question 22 over the first n sections.
+pub fn acceptable(
+    heads: &[f64],
+    flows: &[f64],
+    highest: &[f64],
+    lowest: &[f64],
+    initial: &[u8],
+    n: usize,
+) -> bool
+    requires { ⌜ scan.Covered (now initial) n (now heads) (now flows) ⌝ }
+    requires { ⌜ (n ≤ length (now highest)) × (n ≤ length (now lowest)) ⌝ }
+    ensures { λ r. ⌜ r ≡ allBelow (scan.acceptableIn (now (initial .entry)) (now (heads .entry)) (now (flows .entry)) (now (highest .entry)) (now (lowest .entry))) n ⌝ }
+{
+    let mut s = 0;
+    while s < n {
+        if !acceptable_at(
+            heads[s],
+            flows[s],
+            highest[s],
+            lowest[s],
+            floor_at(initial, s),
+        ) {
+            return false;
+        }
+        s += 1;
+    }
+    true
+}
+
+// ---- the inner sections of a pipe
+
+// R of reach i of a pipe, from the bytes of table 3.
+fn friction_at(friction: &[u8], i: usize) -> f64
+    requires { ⌜ (i * 8 + 8 ≤ length (now friction)) × (finite (rIn (now friction) i) ≡ true) ⌝ }
+    ensures { λ r. ⌜ r ≡ rIn (now (friction .entry)) i ⌝ }
+{
+    fields::f64_at(friction, i * 8)
+}
+
+// Section i + 1 of a pipe, from its neighbours' old values.
+fn inner_at(friction: &[u8], s: f64, heads: &[f64], flows: &[f64], i: usize) -> HeadFlow
+    requires { ⌜ (i + 2 < length (now heads)) × (i + 2 < length (now flows)) ⌝ }
+    requires { ⌜ (i * 8 + 16 ≤ length (now friction)) × (finite (rIn (now friction) i) ≡ true) × (finite (rIn (now friction) (i + 1)) ≡ true) ⌝ }
+    ensures { λ r. ⌜ r ≡ pipe.innerAt (now (friction .entry)) s (now (heads .entry)) (now (flows .entry)) i ⌝ }
+{
+    let cp = wave::from_above(s, friction_at(friction, i), heads[i], flows[i]);
+    let cm = wave::from_below(s, friction_at(friction, i + 1), heads[i + 2], flows[i + 2]);
+    wave::inner(s, cp, cm)
+}
+
+// The inner sections of one pipe: all rows are cut to the pipe, and friction is its own part of table 3.
+pub fn sweep(
+    friction: &[u8],
+    s: f64,
+    heads: &[f64],
+    flows: &[f64],
+    new_heads: &mut [f64],
+    new_flows: &mut [f64],
+)
+    requires { ⌜ pipe.CutToPipe (now friction) (now heads) (now flows) (now «new_heads») (now «new_flows») ⌝ }
+    ensures { λ _. ⌜ (now («new_heads» .exit) ≡ fill (pipe.innerHead (now (friction .entry)) s (now (heads .entry)) (now (flows .entry))) (now («new_heads» .entry)) 1 (length (now (heads .entry)) - 2))
+        × (now («new_flows» .exit) ≡ fill (pipe.innerFlow (now (friction .entry)) s (now (heads .entry)) (now (flows .entry))) (now («new_flows» .entry)) 1 (length (now (heads .entry)) - 2)) ⌝ }
+{
+    let mut i = 0;
+    while i + 2 < heads.len() {
+        let x = inner_at(friction, s, heads, flows, i);
+        new_heads[i + 1] = x.head;
+        new_flows[i + 1] = x.flow;
+        i += 1;
+    }
+}
