@@ -1,6 +1,7 @@
 pub mod Figures
 pub mod Listed
-pub mod Sums
+pub mod Laid
+pub mod Places
 pub mod FirstNo
 pub mod Tables
 pub mod NodeLaws

@@ -5,7 +5,7 @@ ghost use Prim.Native.Nat.{ℕ, _+_, _*_, _<_, _≤_};
 ghost use lib.ListN.{length};
 ghost use lib.Ieee.Scale.{finite};
 ghost use Rattle.fields.specs.Bytes.{f64At, finiteAt};
-ghost use Rattle.job.specs.Format.{pipeCount, pipeIn, nodeCount, kindNumber, scheduleCount};
+ghost use Rattle.job.specs.Format.{pipeCount, pipeIn, nodeCount, kindNumber, scheduleCount, placeOf};
 ghost use Rattle.job.specs.Questions.{notBelowZero, kindFits, kindsFit, allFinite, hasNoFigures, valveFits, pumpFits, figuresFitKind, figureFits, figuresFit, endsAt, hasEnd, nodesMet, pairQuestions, nodeQuestions, firstNo};
 
 // The number of node y's kind.
@@ -22,6 +22,15 @@ pub fn schedule_count(nodes: &[u8], y: usize) -> usize
     ensures { λ r. ⌜ (r ≡ scheduleCount (now (nodes .entry)) y) × (r < 256) ⌝ }
 {
     fields::index(nodes[y * 26 + 1])
+}
+
+// The place of node y + 1's schedule, from that of node y's: the number of entries before it.
+// No node has more than 256 entries, whatever its bytes.
+pub fn next_place(nodes: &[u8], y: usize, place: usize) -> usize
+    requires { ⌜ (place ≡ placeOf (now nodes) y) × (place ≤ y * 256) × (y < nodeCount (now nodes)) × (length (now nodes) ≤ 32768) ⌝ }
+    ensures { λ r. ⌜ (r ≡ placeOf (now (nodes .entry)) (y + 1)) × (r ≤ (y + 1) * 256) ⌝ }
+{
+    place + schedule_count(nodes, y)
 }
 
 // 10, of node y: is the kind 0 to 3 and the schedule count at least 1?

@@ -6,8 +6,15 @@ ghost use Prim.Native.Nat.{ℕ, _+_, _*_, _<_, _≤_};
 ghost use lib.ListN.{length};
 ghost use lib.Ieee.Scale.{finite};
 ghost use Rattle.job.specs.Job.{sectionsOf};
-ghost use Rattle.job.specs.Format.{pipeCount, pipeIn, pipesIn, reachesOf};
+ghost use Rattle.job.specs.Format.{pipeCount, pipeIn, pipesIn, reachesOf, firstsOf};
 ghost use Rattle.job.specs.Questions.{holdsRecords, joins, pipesJoin, sectionsFit, constantFits, constantsFit, pairQuestions, pipeQuestions, firstNo};
+
+// The first section and the first reach of a pipe, counted through all pipes: what is carried along
+// as the pipes are walked.
+pub struct Firsts {
+    pub section: usize,
+    pub reach: usize,
+}
 
 // The start node of pipe p.
 pub fn start(pipes: &[u8], p: usize) -> usize
@@ -41,27 +48,52 @@ pub fn constant(pipes: &[u8], p: usize) -> f64
     fields::f64_at(pipes, p * 12 + 4)
 }
 
+// The firsts of pipe p + 1, from those of pipe p. No pipe has more than 65,536 sections, whatever its bytes.
+pub fn next_firsts(pipes: &[u8], p: usize, at: Firsts) -> Firsts
+    requires { ⌜ (at ≡ firstsOf (now pipes) p) × (at .section ≤ p * 65536) × (p < pipeCount (now pipes)) × (length (now pipes) ≤ 32768) ⌝ }
+    ensures { λ r. ⌜ (r ≡ firstsOf (now (pipes .entry)) (p + 1)) × (r .section ≤ (p + 1) * 65536) ⌝ }
+{
+    let n = reaches(pipes, p);
+    Firsts {
+        section: at.section + n + 1,
+        reach: at.reach + n,
+    }
+}
+
+// Where the pipes end: the section count, and the number of reaches in all.
+fn ends(pipes: &[u8]) -> Firsts
+    requires { ⌜ length (now pipes) ≤ 32768 ⌝ }
+    ensures { λ r. ⌜ (r ≡ firstsOf (now (pipes .entry)) (pipeCount (now (pipes .entry)))) × (r .section < 268435456) ⌝ }
+{
+    let count = pipes.len() / 12;
+    let mut at = Firsts {
+        section: 0,
+        reach: 0,
+    };
+    let mut p = 0;
+    while p < count {
+        at = next_firsts(pipes, p, at);
+        p += 1;
+    }
+    at
+}
+
 // The number of reaches in all.
 pub fn reach_count(pipes: &[u8]) -> usize
     requires { ⌜ length (now pipes) ≤ 32768 ⌝ }
     ensures { λ r. ⌜ (r ≡ reachesOf (pipesIn (now (pipes .entry)))) × (r < 268435456) ⌝ }
 {
-    let count = pipes.len() / 12;
-    let mut sum = 0;
-    let mut p = 0;
-    while p < count {
-        sum = sum + reaches(pipes, p);
-        p += 1;
-    }
-    sum
+    let at = ends(pipes);
+    at.reach
 }
 
-// The section count: a pipe of n reaches has n + 1 sections.
+// The section count.
 pub fn section_count(pipes: &[u8]) -> usize
     requires { ⌜ length (now pipes) ≤ 32768 ⌝ }
-    ensures { λ r. ⌜ (r ≡ sectionsOf (pipesIn (now (pipes .entry)))) × (r < 536870912) ⌝ }
+    ensures { λ r. ⌜ (r ≡ sectionsOf (pipesIn (now (pipes .entry)))) × (r < 268435456) ⌝ }
 {
-    reach_count(pipes) + pipes.len() / 12
+    let at = ends(pipes);
+    at.section
 }
 
 // Is the table one of whole records, low to high of them?

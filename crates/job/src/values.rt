@@ -119,7 +119,7 @@ fn schedule_fits(schedules: &[u8], kind: usize, place: usize, count: usize) -> b
 
 // 15, of each node. The place of a schedule is carried along.
 fn schedules_fit(nodes: &[u8], schedules: &[u8]) -> bool
-    requires { ⌜ placeOf (now nodes) (nodeCount (now nodes)) * 8 ≤ length (now schedules) ⌝ }
+    requires { ⌜ (placeOf (now nodes) (nodeCount (now nodes)) * 8 ≤ length (now schedules)) × (length (now nodes) ≤ 32768) ⌝ }
     ensures { λ r. ⌜ r ≡ schedulesFit (now (nodes .entry)) (now (schedules .entry)) ⌝ }
 {
     let n = nodes.len() / 26;
@@ -130,7 +130,7 @@ fn schedules_fit(nodes: &[u8], schedules: &[u8]) -> bool
         if !schedule_fits(schedules, super::nodes::kind(nodes, y), place, count) {
             return false;
         }
-        place = place + count;
+        place = super::nodes::next_place(nodes, y, place);
         y += 1;
     }
     true
@@ -145,7 +145,7 @@ fn entry_count(nodes: &[u8]) -> usize
     let mut place = 0;
     let mut y = 0;
     while y < n {
-        place = place + super::nodes::schedule_count(nodes, y);
+        place = super::nodes::next_place(nodes, y, place);
         y += 1;
     }
     place

@@ -11,7 +11,7 @@ use borrow.Author.Tests.{eqb-true, eqb-false}
 use Rattle.wave.specs.Wave.{sumsOf}
 use Rattle.job.specs.Job.{Laid}
 use Rattle.recurrence.specs.State.{State, pointAt}
-use Rattle.recurrence.specs.Step.{Inputs, along, cpAfter, cmBefore, kAtFinish, kAtStart, endsOf, sumsAt, headAt, located, Place, place, nowhere, newAtFinish, newAtStart, newBetween, newIn, newAt, newPoint}
+use Rattle.recurrence.specs.Step.{Inputs, along, cpAfter, cmBefore, kAtFinish, kAtStart, endsOf, sumsAt, headAt, located, Place, place, nowhere, atFinish, atStart, between, newIn, newAt, newPoint}
 use Rattle.recurrence.specs.Paths.{EndAt, startsAt, finishesAt, Beside, down, up}
 use Rattle.recurrence.proofs.Tests.{cond-cong}
 use Rattle.recurrence.proofs.Laying.{Found, FoundAt, located-found}
@@ -76,7 +76,7 @@ module _ (ls : List Laid) (f g : Inputs) (u v : State) (near : ℕ → Type 0) (
   head-alike y s n a = cc (c .node y s n a, sums-alike y s n a)
 
   new-in : (l : Laid) (i s : ℕ) → near s → Found ls s l i → newIn ls f u l i ≡ newIn ls g v l i
-  unfolding newIn newAtStart newAtFinish newBetween cpAfter cmBefore
+  unfolding newIn atStart atFinish between cpAfter cmBefore
   new-in l zero s n h =
       let p = h .number in
       let q : s ≡ l .first = omega arith in

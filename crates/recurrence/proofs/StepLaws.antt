@@ -13,7 +13,7 @@ use Rattle.fields.specs.Real.{_⊞_, zero64}
 use Rattle.wave.specs.Wave.{sumFrom}
 use Rattle.job.specs.Job.{Job, Laid, laid, sections}
 use Rattle.recurrence.specs.State.{State, noPoint, pointAt}
-use Rattle.recurrence.specs.Step.{Inputs, inputs, endsOf, located, newAtFinish, newAtStart, newBetween, newIn, newAt, newPoint, advanced}
+use Rattle.recurrence.specs.Step.{Inputs, inputs, endsOf, located, atFinish, atStart, between, newIn, newAt, newPoint, advanced}
 use Rattle.recurrence.proofs.Listed.{length-listed, getD-listed}
 use Rattle.recurrence.proofs.Laying.{laid-located}
 
@@ -30,21 +30,21 @@ module _ (j : Job) (n : ℕ) (st : State) where
 
 -- a laid pipe's start, its sections between the ends, and its finish
 module _ (j : Job) (f : Inputs) (st : State) (p : ℕ) (l : Laid) (e : getElem? (laid j) p ≡ some l) where
-  pub new-start : newAt (laid j) f st (located (laid j) (l .first)) ≡ newAtStart (laid j) f st l
+  pub new-start : newAt (laid j) f st (located (laid j) (l .first)) ≡ atStart (laid j) f st l
   unfolding newAt newIn
   new-start =
       let z : l .first + 0 ≡ l .first = omega arith in
       ap (λ (s : ℕ). newAt (laid j) f st (located (laid j) s)) (sym z) ∙ rw (laid-located j p l 0 e (omega arith))
 
-  pub new-between : (i : ℕ) → suc i < l .pipe .reaches → newAt (laid j) f st (located (laid j) (l .first + suc i)) ≡ newBetween f st l i
+  pub new-between : (i : ℕ) → suc i < l .pipe .reaches → newAt (laid j) f st (located (laid j) (l .first + suc i)) ≡ between f st l i
   unfolding newAt newIn
   new-between i h = rw (laid-located j p l (suc i) e (omega arith), ne-eqb (suc i) (l .pipe .reaches) (λ q. omega arith))
 
-  pub new-finish : 1 ≤ l .pipe .reaches → newAt (laid j) f st (located (laid j) (l .first + l .pipe .reaches)) ≡ newAtFinish (laid j) f st l
+  pub new-finish : 1 ≤ l .pipe .reaches → newAt (laid j) f st (located (laid j) (l .first + l .pipe .reaches)) ≡ atFinish (laid j) f st l
   unfolding newAt newIn
   new-finish h = rw (laid-located j p l (l .pipe .reaches) e (omega arith)) (go (l .pipe .reaches) refl h)
     where
-      go : (i : ℕ) → i ≡ l .pipe .reaches → 1 ≤ i → newIn (laid j) f st l i ≡ newAtFinish (laid j) f st l
+      go : (i : ℕ) → i ≡ l .pipe .reaches → 1 ≤ i → newIn (laid j) f st l i ≡ atFinish (laid j) f st l
       go zero q h = absurd (omega arith)
       go (suc i) q h = rw (eq-eqb (suc i) (l .pipe .reaches) q)
 

@@ -55,10 +55,10 @@ kAtStart f st l = along startK f st l 0 1
 
 -- What the pipe ends at node y give, in rising pipe number. A pipe's two nodes differ, so it has one end there at most.
 unfoldable pub endsOf : {A : Type 0} → (Laid → A) → (Laid → A) → ℕ → List Laid → List A
-endsOf atStart atFinish y [] = []
-endsOf atStart atFinish y (l ∷ ls) =
-    let rest = endsOf atStart atFinish y ls in
-    cond (eqb (l .pipe .start) y) (atStart l ∷ rest) (cond (eqb (l .pipe .finish) y) (atFinish l ∷ rest) rest)
+endsOf ofStart ofFinish y [] = []
+endsOf ofStart ofFinish y (l ∷ ls) =
+    let rest = endsOf ofStart ofFinish y ls in
+    cond (eqb (l .pipe .start) y) (ofStart l ∷ rest) (cond (eqb (l .pipe .finish) y) (ofFinish l ∷ rest) rest)
 
 -- "For a node, B is the sum of K and T the sum of S over its pipe ends, added to +0 in rising pipe number."
 unfoldable pub sumsAt : List Laid → Inputs → State → ℕ → Sums
@@ -81,20 +81,20 @@ located (l ∷ ls) s =
     let later = located ls s in
     cond (leb (l .first) s && leb s (l .first + l .pipe .reaches)) (place l (s - l .first)) later
 
-unfoldable pub newAtFinish : List Laid → Inputs → State → Laid → HeadFlow
-newAtFinish ls f st l = finishEnd (l .pipe .S) (kAtFinish f st l) (headAt ls f st (l .pipe .finish))
+unfoldable pub atFinish : List Laid → Inputs → State → Laid → HeadFlow
+atFinish ls f st l = finishEnd (l .pipe .S) (kAtFinish f st l) (headAt ls f st (l .pipe .finish))
 
-unfoldable pub newAtStart : List Laid → Inputs → State → Laid → HeadFlow
-newAtStart ls f st l = startEnd (l .pipe .S) (kAtStart f st l) (headAt ls f st (l .pipe .start))
+unfoldable pub atStart : List Laid → Inputs → State → Laid → HeadFlow
+atStart ls f st l = startEnd (l .pipe .S) (kAtStart f st l) (headAt ls f st (l .pipe .start))
 
 -- section i + 1 of a pipe, between its ends
-unfoldable pub newBetween : Inputs → State → Laid → ℕ → HeadFlow
-newBetween f st l i = inner (l .pipe .S) (cpAfter f st l i) (cmBefore f st l (suc i))
+unfoldable pub between : Inputs → State → Laid → ℕ → HeadFlow
+between f st l i = inner (l .pipe .S) (cpAfter f st l i) (cmBefore f st l (suc i))
 
 -- the new head and flow at offset i of a laid pipe, and at a section
 unfoldable pub newIn : List Laid → Inputs → State → Laid → ℕ → HeadFlow
-newIn ls f st l zero = newAtStart ls f st l
-newIn ls f st l (suc i) = cond (eqb (suc i) (l .pipe .reaches)) (newAtFinish ls f st l) (newBetween f st l i)
+newIn ls f st l zero = atStart ls f st l
+newIn ls f st l (suc i) = cond (eqb (suc i) (l .pipe .reaches)) (atFinish ls f st l) (between f st l i)
 
 unfoldable pub newAt : List Laid → Inputs → State → Place → HeadFlow
 newAt ls f st nowhere = record { head = zero64; flow = zero64 }

@@ -190,8 +190,10 @@ impl Sums {
     pub fn head_less(self, q: Discharge) -> f64
         ensures { λ r. ⌜ r ≡ nodes.headLess q self ⌝ }
     {
+        let b = self.b;
+        let t = self.t;
         match q {
-            Discharge::Flow(q) => (self.b - q) / self.t,
+            Discharge::Flow(q) => (b - q) / t,
             Discharge::NotFinite => infinity(),
         }
     }
@@ -199,8 +201,10 @@ impl Sums {
     pub fn head_more(self, q: Discharge) -> f64
         ensures { λ r. ⌜ r ≡ nodes.headMore q self ⌝ }
     {
+        let b = self.b;
+        let t = self.t;
         match q {
-            Discharge::Flow(q) => (self.b + q) / self.t,
+            Discharge::Flow(q) => (b + q) / t,
             Discharge::NotFinite => infinity(),
         }
     }

@@ -1,10 +1,9 @@
--- `job::values::entry_count` meets its contract: the invariant has the entries of the nodes before y. Assumes nothing.
-use mathlib.Core.Path.{_≡_, refl, sym, _∙_}
+-- `job::values::entry_count` meets its contract: the invariant has the place of node y's schedule. Assumes nothing.
+use mathlib.Core.Path.{_≡_, refl}
 use Prim.Native.Nat.{_≤_, _*_, _-_}
 use native.Mathlib.Omega.{arith}
 use denote.Ref.{now}
 use Rattle.job.specs.Format.{nodeCount, placeOf}
-use Rattle.job.proofs.Sums.{place-more}
 use borrow.Author.Needs.{needs}
 use Rattle.job.proofs.values.entry_count.Statement.{statement}
 use Rattle.job.proofs.values.entry_count.Tie as tie
@@ -20,7 +19,7 @@ unfolding placeOf
 loop-holds c = (search needs, refl, search needs)
 
 loop-again : tie.Need-loop-again Inv-loop μ-loop
-loop-again c = (search needs, rw (place-more, c .before .before .loop .inv .1, c .schedule-count .ensures .0), search needs)
+loop-again c = (search needs, c .next-place .ensures .0, c .next-place .ensures .1)
 
 returns : tie.Need-returns Inv-loop μ-loop
 returns c =
@@ -36,7 +35,6 @@ entry-count-spec =
     μ-loop
     loop-holds
     (λ c κs. search needs)
-    (λ c. search needs)
     (λ c. search needs)
     (λ c. search needs)
     loop-again

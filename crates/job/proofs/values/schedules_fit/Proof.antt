@@ -8,13 +8,13 @@ use borrow.Author.Tests.{not-true, not-false}
 use Rattle.loops.proofs.All.{Passing, passing-none, passing-step, passing-stop, passing-done}
 use Rattle.job.specs.Format.{nodeCount, placeOf}
 use Rattle.job.specs.Questions.{scheduleFits, schedulesFit}
-use Rattle.job.proofs.Sums.{place-more, place-rises}
+use Rattle.job.proofs.Places.{place-more, place-rises}
 use borrow.Author.Needs.{needs}
 use Rattle.job.proofs.values.schedules_fit.Statement.{statement}
 use Rattle.job.proofs.values.schedules_fit.Tie as tie
 
 abbrev Inv-loop : tie.InvT-loop
-Inv-loop nodes schedules n place₀ y₀ place y = Passing (scheduleFits nodes schedules) n y × (place ≡ placeOf nodes y)
+Inv-loop nodes schedules n place₀ y₀ place y = Passing (scheduleFits nodes schedules) n y × (place ≡ placeOf nodes y) × (place ≤ y * 256)
 
 abbrev μ-loop : tie.MeasureT-loop
 μ-loop nodes schedules n place₀ y₀ place y = n - y
@@ -27,7 +27,14 @@ within c =
     let at = c .before .before in
     let s = at .before .before .before in
     let y = at .loop .y in
-    omega (arith, place-rises (now (s .args .nodes)) (y + 1) (nodeCount (now (s .args .nodes))) (omega arith), place-more (now (s .args .nodes)) y, c .schedule-count .ensures .0, at .loop .inv .1, s .pre)
+    omega (
+      arith,
+      place-rises (now (s .args .nodes)) (y + 1) (nodeCount (now (s .args .nodes))) (omega arith),
+      place-more (now (s .args .nodes)) y,
+      c .schedule-count .ensures .0,
+      at .loop .inv .1,
+      s .pre,
+    )
 
 asked :
     (c : tie.After-schedule-fits Inv-loop μ-loop)
@@ -38,7 +45,7 @@ asked c =
 
 loop-holds : tie.Need-loop-holds Inv-loop μ-loop
 unfolding placeOf
-loop-holds c = (passing-none _, refl)
+loop-holds c = (passing-none _, refl, search needs)
 
 schedule-fits-requires : tie.Need-schedule-fits-requires Inv-loop μ-loop
 schedule-fits-requires c κs = within (c .before)
@@ -47,15 +54,13 @@ returns : tie.Need-returns Inv-loop μ-loop
 unfolding schedulesFit scheduleFits
 returns c = passing-stop _ (c .before .before .before .before .loop-test .taken) (asked (c .before)) (not-true _ (c .if1 .taken))
 
-add-place : tie.Need-add-place Inv-loop μ-loop
-add-place c = omega (arith, within (c .before .before .before))
-
 loop-again : tie.Need-loop-again Inv-loop μ-loop
 unfolding scheduleFits
 loop-again c =
-    let at = c .before .before .before .before .before in (
-      passing-step _ (at .loop .inv .0) (omega arith) (asked (c .before)) (not-false _ (c .if1 .left)),
-      rw (place-more, at .loop .inv .1, c .before .before .before .schedule-count .ensures .0),
+    let at = c .before .before .before .before .before .before in (
+      passing-step _ (at .loop .inv .0) (omega arith) (asked (c .before .before)) (not-false _ (c .before .if1 .left)),
+      c .next-place .ensures .0,
+      c .next-place .ensures .1,
     )
 
 returns-2 : tie.Need-returns-2 Inv-loop μ-loop
@@ -73,7 +78,7 @@ schedules-fit-spec =
     (λ c κs. search needs)
     schedule-fits-requires
     returns
-    add-place
+    (λ c κs. search needs)
     (λ c. search needs)
     (λ c. search needs)
     loop-again

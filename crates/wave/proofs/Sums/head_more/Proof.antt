@@ -6,7 +6,7 @@ use Rattle.wave.proofs.Sums.head_more.Tie as tie
 
 returns : tie.Need-returns
 unfolding headMore
-returns c = rw (c .before .before .before .q .given .1)
+returns c = rw (c .before .q .given .1)
 
 returns-2 : tie.Need-returns-2
 unfolding headMore
