@@ -1,19 +1,20 @@
 -- A loop that stores f 0, f 1, .. at `at`, at + 1, .. of a list l, one a turn: after n turns the list is `fill f l at n`.
 -- In a loop:  fill-none   before the first turn the list is l
 --             fill-step   a turn stores f n at at + n
--- Of the result:  length-fill; fill-in, what stands in the range; fill-below and fill-above, what stands outside it.
+-- Of the result:  length-fill; fill-in, what stands in the range; fill-below and fill-above, what stands outside it; take-fill and drop-fill, the same as lists.
 -- `Filled` says the same entry by entry, and `filled` has it of `fill`.
+-- fill-list   what is filled from the first entry on is a list, and then the rest;  fill-part   a part filled and put back is the whole filled from there
 -- Assumes nothing.
 use mathlib.Core.Path.{_≡_, refl, sym, _∙_, ap, subst}
 use mathlib.Core.Logic.{⊎-elim}
-use mathlib.Core.List.{List}
+use mathlib.Core.List.{List, [], _∷_, _++_}
 use Prim.Native.Nat.{ℕ, zero, suc, _+_, _<_, _≤_}
-use native.Mathlib.Nat.{le-of-suc-le-suc, not-suc-le-zero, eq-or-lt-of-le, add-suc}
+use native.Mathlib.Nat.{le-of-suc-le-suc, not-suc-le-zero, eq-or-lt-of-le, add-assoc, suc-add, zero-add}
 use native.Mathlib.Numerals.{add-one}
 use native.Mathlib.Omega.{arith}
 use Rattle.loops.specs.Loops.{fill}
-use lib.ListN.{length, getD, set, length-set}
-use lib.Seq.{getD-set-same, getD-set-other, ext-getD}
+use lib.ListN.{length, getD, set, take, drop, length-set, length-drop, take-append-drop}
+use lib.Seq.{getD-set-same, getD-set-other, ext-getD, take-set-le, drop-set-lt, set-append-left, length-take-le, getD-take}
 
 module _ {A : Type 0} (f : ℕ → A) (l : List A) (at : ℕ) where
   pub fill-none : l ≡ fill f l at 0
@@ -47,6 +48,16 @@ module _ {A : Type 0} (f : ℕ → A) (l : List A) (at : ℕ) where
       (λ e. rw e (getD-set-same (fill f l at n) (at + n) (f n) d (omega (arith, length-fill n))))
       (λ o. getD-set-other (fill f l at n) (at + n) (at + k) (f n) d (λ e. omega arith) ∙ fill-in d n k (omega arith) o)
       (eq-or-lt-of-le (le-of-suc-le-suc h))
+
+  pub take-fill : (n m : ℕ) → m ≤ at → take m (fill f l at n) ≡ take m l
+  unfolding fill
+  take-fill zero m h = refl
+  take-fill (suc n) m h = take-set-le m (fill f l at n) (at + n) (f n) (omega arith) ∙ take-fill n m h
+
+  pub drop-fill : (n m : ℕ) → at + n ≤ m → drop m (fill f l at n) ≡ drop m l
+  unfolding fill
+  drop-fill zero m h = refl
+  drop-fill (suc n) m h = drop-set-lt m (fill f l at n) (at + n) (f n) (omega arith) ∙ drop-fill n m (omega arith)
 
 -- new is old with n entries from `at` on replaced by f 0, f 1, ..
 pub record Filled {A : Type 0} (d : A) (f : ℕ → A) (old : List A) (at n : ℕ) (new : List A) : Type 0 where
@@ -84,3 +95,34 @@ module _ {A : Type 0} {f : ℕ → A} {old : List A} {at n : ℕ} where
   -- what is not stored yet is the old entry
   pub upto-read : {i : ℕ} {new : List A} → Upto f old at n i new → (d : A) (j : ℕ) → at + i ≤ j → getD new j d ≡ getD old j d
   upto-read {i} {new} u d j h = rw (u .stored) (fill-above f old at d i j h)
+
+-- ---- lists put together
+
+module _ {A : Type 0} where
+  -- the entries of xs stored from the first on, and then what stood there
+  pub fill-list : (d : A) (f : ℕ → A) (l xs : List A) → length xs ≤ length l → ((i : ℕ) → i < length xs → f i ≡ getD xs i d) → fill f l 0 (length xs) ≡ xs ++ drop (length xs) l
+  fill-list d f l xs long e =
+      let n = length xs in
+      let w = fill f l 0 n in
+      let cut : length (take n w) ≡ n = length-take-le n w (rw (length-fill f l 0 n) long) in
+      let at : (i : ℕ) → i < n → getD w i d ≡ f i = λ i h. rw (zero-add i) at (fill-in f l 0 d n i (omega arith) h) in
+      let front : take n w ≡ xs = ext-getD d (take n w) xs cut (λ i h. let k : i < n = omega arith in getD-take n w i d k ∙ at i k ∙ e i k) in
+      sym (take-append-drop n w) ∙ rw (front, drop-fill f l 0 n n (omega arith))
+
+  -- a store within the middle one of three lists
+  set-middle : (xs ys zs : List A) (i : ℕ) (v : A) → i < length ys → xs ++ (set ys i v ++ zs) ≡ set (xs ++ (ys ++ zs)) (length xs + i) v
+  set-middle [] ys zs i v h = rw (zero-add i) (sym (set-append-left ys zs i v h))
+  set-middle (x ∷ xs) ys zs i v h = rw (suc-add (length xs) i) (ap (λ (l : List A). x ∷ l) (set-middle xs ys zs i v h))
+
+  -- k entries of w from a on, lent, filled from `at` on and come back: w filled from a + at on
+  pub fill-part :
+      (f : ℕ → A) (w : List A) (a k at n : ℕ) → at + n ≤ k → a + k ≤ length w
+      → take a w ++ (fill f (take k (drop a w)) at n ++ drop k (drop a w)) ≡ fill f w (a + at) n
+  unfolding fill
+  fill-part f w a k at zero h b = ap (λ (l : List A). take a w ++ l) (take-append-drop k (drop a w)) ∙ take-append-drop a w
+  fill-part f w a k at (suc n) h b =
+      let part = take k (drop a w) in
+      let long : length part ≡ k = length-take-le k (drop a w) (rw (length-drop a w) (omega arith)) in
+      let front : length (take a w) ≡ a = length-take-le a w (omega arith) in
+      set-middle (take a w) (fill f part at n) (drop k (drop a w)) (at + n) (f n) (rw (length-fill f part at n, long) (omega arith))
+      ∙ rw (front, fill-part f w a k at n (omega arith) b, add-assoc a at n)

@@ -14,6 +14,5 @@ pub mod Figures
 pub mod Sharp
 pub mod SameBits
 pub mod RowLaws
-pub mod Laid
 pub mod StepLaws
 pub mod RunLaws

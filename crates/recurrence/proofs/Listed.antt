@@ -7,19 +7,9 @@ use native.Mathlib.Nat.{le-of-suc-le-suc, not-suc-le-zero}
 use native.Mathlib.Omega.{arith}
 use lib.ListN.{length, getD, getElem?}
 use Rattle.job.specs.Format.{listed}
+pub use Rattle.job.proofs.Listed.{length-listed, getD-listed}
 
 module _ {A : Type 0} where
-  pub length-listed : (n : ℕ) (f : ℕ → A) → length (listed n f) ≡ n
-  unfolding listed
-  length-listed zero f = refl
-  length-listed (suc n) f = ap suc (length-listed n (λ s. f (suc s)))
-
-  pub getD-listed : (n : ℕ) (f : ℕ → A) (s : ℕ) (d : A) → s < n → getD (listed n f) s d ≡ f s
-  unfolding listed
-  getD-listed zero f s d h = absurd (not-suc-le-zero h)
-  getD-listed (suc n) f zero d h = refl
-  getD-listed (suc n) f (suc s) d h = getD-listed n (λ t. f (suc t)) s d (le-of-suc-le-suc h)
-
   -- also past the end
   pub getD-listed-cong : (n : ℕ) (f g : ℕ → A) (s : ℕ) (d : A) → f s ≡ g s → getD (listed n f) s d ≡ getD (listed n g) s d
   unfolding listed

@@ -1,0 +1,75 @@
+-- Rows that hold a state: what is filled in is the row of the new state, and the scan, question 22, the envelopes and the inner sections are the
+-- recurrence's own. Assumes nothing.
+use mathlib.Core.Path.{_≡_, refl, sym, ap, _∙_}
+use mathlib.Core.List.{List, _++_, map}
+use Prim.Native.Nat.{ℕ, suc, _+_, _≤_, _<_}
+use native.Mathlib.Omega.{arith}
+use lib.ListN.{length, drop}
+use lib.Ieee.{Float}
+use Rattle.loops.specs.Loops.{fill, allBelow}
+use Rattle.wave.specs.declared.HeadFlow.{HeadFlow}
+use Rattle.job.specs.Job.{Job, Laid, sections, floorAt}
+use Rattle.job.specs.Format.{rIn}
+use Rattle.recurrence.specs.State.{Point, State, pointAt}
+use Rattle.recurrence.specs.Step.{Inputs, along, cpAfter, cmBefore, newBetween, updated}
+use Rattle.recurrence.specs.Scan.{none, earlier, faultOf, scan, acceptableAt, acceptable}
+use Rattle.recurrence.specs.Calls.{Rows, pointIn, stateIn, rowOf}
+use Rattle.recurrence.proofs.RowLaws.{row-fill}
+use Rattle.recurrence.proofs.RunLaws.{all-cong, first-cong, acceptable-rows, fault-of}
+use Rattle.rows.specs.Rows.{entry, raised, lowered}
+use Rattle.rows.specs.Faults.{floorIn, headFlowPoint, faultAt, firstFault, acceptableIn}
+use Rattle.rows.specs.Sweep.{innerAt}
+
+-- a field of each point stored in a row that past the count n is as lent
+pub filled-row :
+    (n : ℕ) (st : State) (field : Point → Float) (row lent : List Float) → length (st .points) ≡ n → n ≤ length row → drop n row ≡ drop n lent
+    → (g : ℕ → Float) → ((s : ℕ) → s < n → g s ≡ field (pointAt st s)) → fill g row 0 n ≡ rowOf n st field lent
+unfolding rowOf
+filled-row n st field row lent long h rest g e = row-fill n st field row long h g e ∙ ap (λ (l : List Float). map field (st .points) ++ l) rest
+
+-- ---- the envelopes
+
+module _ (new : HeadFlow) (old : Point) where
+  pub updated-highest : updated new old .highest ≡ raised (old .highest) (new .head)
+  unfolding updated raised
+  updated-highest = refl
+
+  pub updated-lowest : updated new old .lowest ≡ lowered (old .lowest) (new .head)
+  unfolding updated lowered
+  updated-lowest = refl
+
+-- ---- the scan and question 22
+
+module _ (j : Job) (initial : List ℕ) (floors : (s : ℕ) → s < sections j → floorIn initial s ≡ floorAt j s) where
+  pub scan-is :
+      (heads flows : List Float) (st : State) → ((s : ℕ) → s < sections j → entry heads s ≡ pointAt st s .head)
+      → ((s : ℕ) → s < sections j → entry flows s ≡ pointAt st s .flow) → firstFault initial heads flows (sections j) ≡ scan j st
+  unfolding firstFault faultAt scan
+  scan-is heads flows st h q =
+      first-cong earlier none (sections j) _ _ (λ s l.
+      let p = headFlowPoint (entry heads s) (entry flows s) in
+      ap (λ (floor : Float). faultOf floor s p) (floors s l) ∙ fault-of (floorAt j s) s p (pointAt st s) (h s l) (q s l))
+
+  pub acceptable-is : (r : Rows) → allBelow (acceptableIn initial (r .heads) (r .flows) (r .highest) (r .lowest)) (sections j) ≡ acceptable j (stateIn (sections j) r)
+  unfolding acceptableIn pointIn
+  acceptable-is r =
+      all-cong (sections j) _ _ (λ s l. ap (λ (floor : Float). acceptableAt floor (pointIn r s)) (floors s l)) ∙ sym (acceptable-rows j r)
+
+-- ---- the inner sections of a laid pipe, from rows and friction cut to it
+
+pub inner-is :
+    (f : Inputs) (st : State) (l : Laid) (friction : List ℕ) (heads flows : List Float) (n : ℕ)
+    → ((i : ℕ) → i < n → rIn friction i ≡ f .friction (l .reach + i))
+    → ((i : ℕ) → i ≤ n → entry heads i ≡ pointAt st (l .first + i) .head)
+    → ((i : ℕ) → i ≤ n → entry flows i ≡ pointAt st (l .first + i) .flow)
+    → (i : ℕ) → suc i < n → innerAt friction (l .pipe .S) heads flows i ≡ newBetween f st l i
+unfolding innerAt newBetween cpAfter cmBefore along
+inner-is f st l friction heads flows n r h q i b =
+    rw (
+      r i (omega arith),
+      h i (omega arith),
+      q i (omega arith),
+      r (suc i) (omega arith),
+      h (suc (suc i)) (omega arith),
+      q (suc (suc i)) (omega arith),
+    )
