@@ -3,3 +3,5 @@ pub mod Accept
 pub mod NodeSums
 pub mod Held
 pub mod Walk
+pub mod Filling
+pub mod Inner

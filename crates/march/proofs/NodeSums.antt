@@ -10,13 +10,13 @@ use lib.ListN.{length, getD, set, replicate}
 use lib.Ieee.{Float, nan}
 use borrow.Author.Tests.{eqb-true, eqb-false, eq-eqb, ne-eqb}
 use Rattle.fields.specs.Real.{_⊞_, zero64}
-use Rattle.wave.specs.Wave.{sumFrom}
+use Rattle.wave.specs.Wave.{sumFrom, sumsOf}
 use Rattle.wave.proofs.SumsLaws.{sum-last}
-use Rattle.job.specs.Job.{Laid}
-use Rattle.job.specs.Format.{listed}
-use Rattle.recurrence.specs.Step.{endsOf}
+use Rattle.job.specs.Job.{Laid, laid}
+use Rattle.job.specs.Format.{listed, jobOf}
+use Rattle.recurrence.specs.Step.{inputs, along, kAtStart, kAtFinish, endsOf, sumsAt, headAt}
 use Rattle.recurrence.proofs.Listed.{getD-listed, listed-cong}
-use Rattle.march.specs.March.{withEnds, nodeSums}
+use Rattle.march.specs.March.{withEnds, nodeSums, old, flowSums, constantSums, headBy}
 
 -- one pipe more at the end of the list
 sum-with : (a b : Laid → Float) (y : ℕ) (x : Float) (ls : List Laid) (l : Laid)
@@ -82,3 +82,10 @@ module _ (a b : Laid → Float) (f : ℕ → Laid) (p : ℕ) (l : Laid) (is : l 
       rw (e, getD-listed 32 g s nan (low .0), getD-listed 32 g t nan (low .1), set-listed 32 g s (g s ⊞ x))
       (set-listed 32 (λ k. cond (eqb s k) (g s ⊞ x) (g k)) t (g t ⊞ y)
       ∙ listed-cong 32 _ _ (λ k _. ends-apart g s t k x y apart ∙ rw (add-one p, listed-last p f, ← is, ex, ey) (sym (sum-with a b k zero64 (listed p f) l))))
+
+-- the head of a node from the rows of sums is the recurrence's
+pub head-by-sums : (job : List ℕ) (n : ℕ) (heads flows : List Float) (y : ℕ) → y < 32
+    → headBy job n (flowSums job heads flows) (constantSums job) y ≡ headAt (laid (jobOf job)) (inputs (jobOf job) n) (old job heads flows) y
+unfolding flowSums constantSums nodeSums headAt sumsAt sumsOf inputs along kAtStart kAtFinish
+head-by-sums job n heads flows y l =
+    rw (getD-listed 32 _ y nan l, getD-listed 32 _ y nan l)

@@ -5,7 +5,7 @@ use mathlib.Core.Bool.{cond}
 use Prim.Native.Nat.{ℕ, zero, suc, _+_, _≤_, _<_}
 use lib.Dec.{eqb}
 use lib.ListN.{length, getD, replicate}
-use lib.Ieee.{Float}
+use lib.Ieee.{Float, nan}
 use Rattle.fields.specs.Real.{_⊞_, zero64}
 use Rattle.loops.specs.Loops.{fill}
 use Rattle.wave.specs.declared.Sums.{Sums}
@@ -90,7 +90,7 @@ abbrev pub overNodes : List ℕ → (ℕ → Float) → List Float
 overNodes job f = fill f (replicate 32 zero64) 0 (nodeCount (nodeTable job))
 
 abbrev pub headBy : List ℕ → ℕ → List Float → List Float → ℕ → Float
-headBy job n b t y = nodeHead (nodeNow (jobOf job) n y) record { b = getD b y zero64; t = getD t y zero64 }
+headBy job n b t y = nodeHead (nodeNow (jobOf job) n y) record { b = getD b y nan; t = getD t y nan }
 
 unfoldable pub nodeHeads : List ℕ → ℕ → List Float → List Float → List Float
 nodeHeads job n heads flows = overNodes job (headAt (laid (jobOf job)) (inputs (jobOf job) n) (old job heads flows))

@@ -2,3 +2,5 @@
 // state alone.
 pub mod ends;
 pub mod laid;
+pub mod nodes;
+pub mod pipes;
