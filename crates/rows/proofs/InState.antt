@@ -11,7 +11,7 @@ use Rattle.wave.specs.declared.HeadFlow.{HeadFlow}
 use Rattle.job.specs.Job.{Job, Laid, sections, floorAt}
 use Rattle.job.specs.Format.{rIn}
 use Rattle.recurrence.specs.State.{Point, State, pointAt}
-use Rattle.recurrence.specs.Step.{Inputs, along, cpAfter, cmBefore, newBetween, updated}
+use Rattle.recurrence.specs.Step.{Inputs, along, cpAfter, cmBefore, between, updated}
 use Rattle.recurrence.specs.Scan.{none, earlier, faultOf, scan, acceptableAt, acceptable}
 use Rattle.recurrence.specs.Calls.{Rows, pointIn, stateIn, rowOf}
 use Rattle.recurrence.proofs.RowLaws.{row-fill}
@@ -62,8 +62,8 @@ pub inner-is :
     → ((i : ℕ) → i < n → rIn friction i ≡ f .friction (l .reach + i))
     → ((i : ℕ) → i ≤ n → entry heads i ≡ pointAt st (l .first + i) .head)
     → ((i : ℕ) → i ≤ n → entry flows i ≡ pointAt st (l .first + i) .flow)
-    → (i : ℕ) → suc i < n → innerAt friction (l .pipe .S) heads flows i ≡ newBetween f st l i
-unfolding innerAt newBetween cpAfter cmBefore along
+    → (i : ℕ) → suc i < n → innerAt friction (l .pipe .S) heads flows i ≡ between f st l i
+unfolding innerAt between cpAfter cmBefore along
 inner-is f st l friction heads flows n r h q i b =
     rw (
       r i (omega arith),

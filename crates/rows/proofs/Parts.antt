@@ -45,7 +45,6 @@ module _ (l : List ℕ) (a k at : ℕ) (h : at + 8 ≤ k) where
 
 -- R of reach i of a part of table 3 that begins with reach r
 pub r-part : (friction : List ℕ) (a k r i : ℕ) → a ≡ r * 8 → i * 8 + 8 ≤ k → rIn (take k (drop a friction)) i ≡ rIn friction (r + i)
-unfolding rIn
 r-part friction a k r i e h =
     f64-part friction a k (i * 8) h ∙ ap (f64At friction) (let p : a + i * 8 ≡ (r + i) * 8 = omega arith in p)
 

@@ -12,25 +12,21 @@ use Rattle.loops.specs.Loops.{allBelow, firstBelow}
 use Rattle.loops.proofs.All.{all-at}
 use Rattle.loops.proofs.First.{first-none, first-more, first-stop}
 use Rattle.job.specs.Format.{sectionIn}
-use Rattle.job.specs.Questions.{sectionFits, initialFits}
+use Rattle.job.specs.Questions.{finiteSection, sectionFits, initialFits}
+use Rattle.job.proofs.Tables.{both}
+use Rattle.job.proofs.SectionLaws.{finite-section}
 use Rattle.recurrence.specs.Scan.{Fault, none, fault, notFinite, parted, faultOf, earlier, acceptableAt}
 use Rattle.rows.specs.Faults.{floorIn, headFlowPoint, faultAt, isSound, acceptableIn}
 use Rattle.rows.proofs.Entries.{read}
 
 -- ---- the floors of table 4, where question 14 has a yes
 
-third : (a b c d : Bool) → a && b && c && d ≡ true → c ≡ true
-third true true true d h = refl
-third true true false d h = h
-third true false c d h = cc
-third false b c d h = cc
-
 pub floor-finite : (initial : List ℕ) (s : ℕ) → s * 24 + 24 ≤ length initial → initialFits initial ≡ true → finite (floorIn initial s) ≡ true
 unfolding initialFits sectionFits
 floor-finite initial s h e =
     let i = sectionIn initial s in
-    third (finite (i .head)) (finite (i .flow)) (finite (i .floor)) (not (lt (i .head) (i .floor)))
-    (all-at (λ s. sectionFits (sectionIn initial s)) s (length initial / 24) e (omega arith))
+    let fits : sectionFits i ≡ true = all-at (λ s. sectionFits (sectionIn initial s)) s (length initial / 24) e (omega arith) in
+    finite-section i (both (finiteSection i) (not (lt (i .head) (i .floor))) fits .0) .floor
 
 -- ---- one section
 

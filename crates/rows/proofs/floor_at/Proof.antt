@@ -2,20 +2,15 @@
 use borrow.Author.Needs.{needs}
 use denote.Ref.{now}
 use Rattle.fields.specs.Bytes.{finiteAt}
-use Rattle.job.specs.Format.{sectionIn}
 use Rattle.rows.proofs.Sound.{floor-finite}
 use Rattle.rows.proofs.floor_at.Statement.{statement}
 use Rattle.rows.proofs.floor_at.Tie as tie
 
 f64-at-requires : tie.Need-f64-at-requires
-unfolding finiteAt sectionIn
+unfolding finiteAt
 f64-at-requires c κs =
     let start = c .before in
     (search needs, floor-finite (now (start .args .initial)) (start .args .s) (start .pre .0) (start .pre .1))
 
-returns : tie.Need-returns
-unfolding sectionIn
-returns c = c .f64-at .ensures
-
 pub floor-at-spec : {M : Type 1} → statement M
-floor-at-spec = tie.close (tie.spec (λ c. search needs) (λ c. search needs) f64-at-requires returns)
+floor-at-spec = tie.close (tie.spec (λ c. search needs) (λ c. search needs) f64-at-requires (λ c. search needs))

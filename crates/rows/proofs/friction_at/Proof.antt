@@ -1,17 +1,12 @@
 -- `rows::friction_at` meets its contract: R stands eight bytes a reach. Assumes nothing.
 use borrow.Author.Needs.{needs}
 use Rattle.fields.specs.Bytes.{finiteAt}
-use Rattle.job.specs.Format.{rIn}
 use Rattle.rows.proofs.friction_at.Statement.{statement}
 use Rattle.rows.proofs.friction_at.Tie as tie
 
 f64-at-requires : tie.Need-f64-at-requires
-unfolding finiteAt rIn
+unfolding finiteAt
 f64-at-requires c κs = (search needs, c .before .pre .1)
 
-returns : tie.Need-returns
-unfolding rIn
-returns c = c .f64-at .ensures
-
 pub friction-at-spec : {M : Type 1} → statement M
-friction-at-spec = tie.close (tie.spec (λ c. search needs) f64-at-requires returns)
+friction-at-spec = tie.close (tie.spec (λ c. search needs) f64-at-requires (λ c. search needs))
