@@ -1,8 +1,8 @@
 -- Rows filled piece by piece: a fill turns on the values stored alone, and two fills end to end are one. Assumes nothing.
-use mathlib.Core.Path.{_≡_, refl, sym, ap, _∙_}
+use mathlib.Core.Path.{_≡_, refl, subst}
 use mathlib.Core.List.{List}
 use Prim.Native.Nat.{ℕ, zero, suc, _+_, _<_, _≤_}
-use native.Mathlib.Nat.{add-assoc, add-suc, add-zero}
+use native.Mathlib.Nat.{add-assoc, add-suc, add-zero, zero-add}
 use native.Mathlib.Omega.{arith}
 use lib.ListN.{set}
 use Rattle.loops.specs.Loops.{fill}
@@ -14,10 +14,13 @@ module _ {A : Type 0} where
   fill-cong f g l at (suc n) h = rw (fill-cong f g l at n (λ i b. h i (omega arith)), h n (omega arith))
 
   -- from a on, after a
-  pub fill-join : (f : ℕ → A) (l : List A) (at a n : ℕ) → fill (λ i. f (a + i)) (fill f l at a) (at + a) n ≡ fill f l at (a + n)
+  fill-join : (f : ℕ → A) (l : List A) (at a n : ℕ) → fill (λ i. f (a + i)) (fill f l at a) (at + a) n ≡ fill f l at (a + n)
   unfolding fill
   fill-join f l at a zero = rw (add-zero a)
   fill-join f l at a (suc n) = rw (fill-join f l at a n, add-suc a n, add-assoc at a n)
+
+  pub fill-on : (f : ℕ → A) (l : List A) (a n : ℕ) → fill (λ i. f (a + i)) (fill f l 0 a) a n ≡ fill f l 0 (a + n)
+  fill-on f l a n = subst (λ (k : ℕ). fill (λ i. f (a + i)) (fill f l 0 a) k n ≡ fill f l 0 (a + n)) (zero-add a) (fill-join f l 0 a n)
 
   -- the first entry, and the rest
   pub fill-front : (f : ℕ → A) (l : List A) (at n : ℕ) → fill (λ i. f (suc i)) (set l at (f 0)) (at + 1) n ≡ fill f l at (suc n)

@@ -69,9 +69,9 @@ module _ (job : List ℕ) (heads flows : List Float) (lent : Lent job heads flow
   pub put-back :
       (field : HeadFlow → Float) (row : List Float) → sections (jobOf job) ≤ length row → {exit : List Float}
       → exit ≡ fill (λ i. field (innerAt friction (l .pipe .S) (take (countOf l) (drop (l .first) heads)) (take (countOf l) (drop (l .first) flows)) i)) (take (countOf l) (drop (l .first) row)) 1
-          (length (take (countOf l) (drop (l .first) heads)) - 2)
+      (length (take (countOf l) (drop (l .first) heads)) - 2)
       → take (l .first) row ++ (exit ++ drop (countOf l) (drop (l .first) row))
-          ≡ fill (λ i. field (between (inputs (jobOf job) 0) (old job heads flows) l i)) row (l .first + 1) (l .pipe .reaches - 1)
+      ≡ fill (λ i. field (between (inputs (jobOf job) 0) (old job heads flows) l i)) row (l .first + 1) (l .pipe .reaches - 1)
   put-back field row h e =
       let n : length (take (countOf l) (drop (l .first) heads)) - 2 ≡ l .pipe .reaches - 1 = omega (arith, cut-length heads (lent .heads-long)) in
       rw (e, n)

@@ -5,3 +5,4 @@ pub mod Held
 pub mod Walk
 pub mod Filling
 pub mod Inner
+pub mod WholePipe
