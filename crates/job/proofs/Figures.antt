@@ -2,7 +2,7 @@
 use mathlib.Core.Path.{_≡_, refl}
 use mathlib.Core.List.{List, [], _∷_}
 use Prim.Native.Nat.{ℕ}
-use lib.ListN.{length}
+use lib.ListN.{length, set}
 use lib.Ieee.{Float, binary64, ofBits, lt}
 use Rattle.fields.specs.Bytes.{u64At, f64At, zeroBitsAt}
 use Rattle.fields.specs.Real.{zero64, one64, two64, four64}
@@ -62,6 +62,17 @@ jobOfAllKinds =
     ∷ 0 ∷ 0 ∷ 0 ∷ 0 ∷ 0 ∷ 0 ∷ 240 ∷ 63 ∷ 0 ∷ 0 ∷ 0 ∷ 0 ∷ 0 ∷ 0 ∷ 224 ∷ 63 ∷ 0 ∷ 0 ∷ 0 ∷ 0 ∷ 0 ∷ 0 ∷ 208 ∷ 63
     ∷ 0 ∷ 0 ∷ 0 ∷ 0 ∷ 0 ∷ 0 ∷ 240 ∷ 63 ∷ 0 ∷ 0 ∷ 0 ∷ 0 ∷ 0 ∷ 0 ∷ 0 ∷ 0
     ∷ 0 ∷ 0 ∷ 0 ∷ 0 ∷ 0 ∷ 0 ∷ 16 ∷ 192 ∷ []
+
+-- 58 bytes. The second table's offset and length come to 2^32 + 46, where a sum of 32 bits would be 46, at which the third begins.
+unfoldable pub wrappedPairs : List ℕ
+wrappedPairs =
+    5 ∷ 0 ∷ 1 ∷ 0 ∷ 0 ∷ 0
+    ∷ 46 ∷ 0 ∷ 0 ∷ 0 ∷ 12 ∷ 0 ∷ 0 ∷ 0
+    ∷ 58 ∷ 0 ∷ 0 ∷ 0 ∷ 244 ∷ 255 ∷ 255 ∷ 255
+    ∷ 46 ∷ 0 ∷ 0 ∷ 0 ∷ 0 ∷ 0 ∷ 0 ∷ 0
+    ∷ 46 ∷ 0 ∷ 0 ∷ 0 ∷ 0 ∷ 0 ∷ 0 ∷ 0
+    ∷ 46 ∷ 0 ∷ 0 ∷ 0 ∷ 12 ∷ 0 ∷ 0 ∷ 0
+    ∷ 0 ∷ 0 ∷ 0 ∷ 0 ∷ 0 ∷ 0 ∷ 0 ∷ 0 ∷ 0 ∷ 0 ∷ 0 ∷ 0 ∷ []
 
 -- the numbers of the two jobs
 abbrev ten : Float
@@ -144,9 +155,13 @@ pub job-of-all-kinds-is-read :
 unfolding jobOfAllKinds listed table pipesIn kindIn frictionIn initialIn placeOf nodeIn nodesIn jobOf f64At u64At
 job-of-all-kinds-is-read = refl
 
-pub both-are-accepted : Accepted jobQ × Accepted jobOfAllKinds
-unfolding jobQ jobOfAllKinds allBelow listed table pipesIn sectionsOf placeOf f64At u64At zeroBitsAt ofBits lt sizeFits pairsFit follows tablesFollow stepsFit holdsRecords joins pipesJoin sectionsFit constantFits constantsFit kindFits kindsFit allFinite hasNoFigures valveFits pumpFits figuresFitKind figureFits figuresFit endsAt hasEnd nodesMet reachesOf rFits frictionFits finiteSection sectionFits initialFits entryFits scheduleFits schedulesFit frictionRight initialRight schedulesRight pairQuestions pipeQuestions nodeQuestions valueQuestions questions firstNo refusal
-both-are-accepted = (refl, refl)
+-- Job Q with one byte changed: the valve's c and then its a made -0, which is not all zero bits and is not below zero; its 2 reaches made 514,
+-- so that questions 7 and 8 both have a no.
+pub edges-are-judged :
+    (refusal (set jobQ 109 128) ≡ 11) × (refusal (set jobQ 93 128) ≡ 0) × (refusal (set jobQ 49 2) ≡ 7) × (refusal wrappedPairs ≡ 3)
+    × Accepted jobQ × Accepted jobOfAllKinds
+unfolding jobQ jobOfAllKinds wrappedPairs allBelow listed table pipesIn sectionsOf placeOf f64At u64At zeroBitsAt ofBits lt sizeFits pairsFit follows tablesFollow stepsFit holdsRecords joins pipesJoin sectionsFit constantFits constantsFit kindFits kindsFit allFinite hasNoFigures valveFits pumpFits figuresFitKind figureFits figuresFit endsAt hasEnd nodesMet reachesOf rFits frictionFits finiteSection sectionFits initialFits entryFits scheduleFits schedulesFit frictionRight initialRight schedulesRight pairQuestions pipeQuestions nodeQuestions valueQuestions questions firstNo refusal
+edges-are-judged = (refl, refl, refl, refl, refl, refl)
 
 pub job-Q-has-214-bytes : length jobQ ≡ 214
 unfolding jobQ

@@ -6,3 +6,6 @@ pub mod FirstNo
 pub mod Tables
 pub mod NodeLaws
 pub mod SectionLaws
+pub mod Accepted
+pub mod AcceptedValues
+pub mod AnswerLaws

@@ -1,9 +1,10 @@
--- A list given by a function of the place: its length, its entries, and the list with one entry more. Assumes nothing.
-use mathlib.Core.Path.{_≡_, refl, sym, ap, _∙_}
+-- A list given by a function of the place: its length and its entries. Assumes nothing.
+use mathlib.Core.Path.{_≡_, refl, ap}
 use mathlib.Core.Option.{Option, some}
-use mathlib.Core.List.{List, [], _∷_, _++_}
-use Prim.Native.Nat.{ℕ, zero, suc, _+_, _<_, _≤_}
+use mathlib.Core.List.{List, [], _∷_}
+use Prim.Native.Nat.{ℕ, zero, suc, _<_}
 use native.Mathlib.Nat.{not-suc-le-zero, le-of-suc-le-suc}
+use native.Mathlib.Omega.{arith}
 use lib.ListN.{length, getD, getElem?}
 use Rattle.job.specs.Format.{listed}
 
@@ -25,7 +26,15 @@ module _ {A : Type 0} where
   at-listed (suc n) f zero l = refl
   at-listed (suc n) f (suc k) l = at-listed n (λ i. f (suc i)) k (le-of-suc-le-suc l)
 
-  pub listed-more : (n : ℕ) (f : ℕ → A) → listed (suc n) f ≡ listed n f ++ (f n ∷ [])
+  pub listed-some : (n : ℕ) (f : ℕ → A) (k : ℕ) (a : A) → getElem? (listed n f) k ≡ some a → (k < n) × (f k ≡ a)
   unfolding listed
-  listed-more zero f = refl
-  listed-more (suc n) f = ap (λ (l : List A). f zero ∷ l) (listed-more n (λ k. f (suc k)))
+  listed-some zero f k a e = let z : _≡_ {A = ℕ} 0 1 = cc in (absurd (omega arith), cc)
+  listed-some (suc n) f zero a e = (omega arith, cc)
+  listed-some (suc n) f (suc k) a e = let h = listed-some n (λ i. f (suc i)) k a e in (omega arith, h .1)
+
+  -- what holds of each entry and of the value past the end holds wherever the list is read
+  pub getD-all : (P : A → Type 0) (n : ℕ) (f : ℕ → A) (d : A) → ((k : ℕ) → k < n → P (f k)) → P d → (k : ℕ) → P (getD (listed n f) k d)
+  unfolding listed
+  getD-all P zero f d h e k = e
+  getD-all P (suc n) f d h e zero = h 0 (omega arith)
+  getD-all P (suc n) f d h e (suc k) = getD-all P n (λ i. f (suc i)) d (λ i l. h (suc i) (omega arith)) e k

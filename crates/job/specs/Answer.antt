@@ -1,4 +1,4 @@
--- What `read` answers. Definitions only.
+-- What the call `read` answers. Definitions only.
 use mathlib.Core.Bool.{cond}
 use mathlib.Core.List.{List}
 use Prim.Native.Nat.{ℕ}
@@ -9,19 +9,16 @@ use Rattle.job.specs.Job.{sections}
 use Rattle.job.specs.Format.{listingSteps, jobOf}
 use Rattle.job.specs.Questions.{refusal}
 
--- This paper's answer to a job: the number of the first no, 0 where there is none, and then the section count and the listing's steps. "A no gives the number alone."
-pub record Answer : Type 0 where
-  pub number : ℕ
-  pub sections : ℕ
-  pub steps : ℕ
+-- An answer in document 01's terms: the number of the question that got a no ("A no gives the number alone"), or the section count and the listing's steps.
+pub data ReadAnswer : Type 0 where
+  refused : ℕ → ReadAnswer
+  accepted : ℕ → ℕ → ReadAnswer
 
-abbrev pub refusedWith : ℕ → Answer
-refusedWith n = record { number = n; sections = 0; steps = 0 }
+-- each case of the code's enum, in document 01's terms
+abbrev pub paperAnswer : Read → ReadAnswer
+paperAnswer (Refused n) = refused n
+paperAnswer (Accepted s m) = accepted s m
 
-unfoldable pub answerOf : Read → Answer
-answerOf (Refused n) = refusedWith n
-answerOf (Accepted s m) = record { number = 0; sections = s; steps = m }
-
-unfoldable pub answerTo : List ℕ → Answer
-answerTo job =
-    cond (eqb (refusal job) 0) (record { number = 0; sections = sections (jobOf job); steps = listingSteps job }) (refusedWith (refusal job))
+-- what `read` is to answer
+unfoldable pub readAnswer : List ℕ → ReadAnswer
+readAnswer job = cond (eqb (refusal job) 0) (accepted (sections (jobOf job)) (listingSteps job)) (refused (refusal job))

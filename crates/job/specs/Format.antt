@@ -7,7 +7,8 @@ use lib.Dec.{ltb, eqb}
 use lib.Ieee.{Float}
 use Rattle.fields.specs.Real.{zero64}
 use Rattle.fields.specs.Bytes.{u8At, u16At, u32At, f64At}
-use Rattle.job.specs.Job.{Pipe, Kind, junction, reservoir, valve, pump, ScheduledNode, Initial, Job, sectionsOf}
+use Rattle.job.specs.Job.{Pipe, Kind, junction, reservoir, valve, pump, ScheduledNode, Initial, Job, sectionsOf, entryAt, withValue}
+use Rattle.wave.specs.declared.Node.{Node}
 use Rattle.job.specs.declared.pipes.Firsts.{Firsts}
 
 -- f 0, f 1, .., f (n - 1)
@@ -152,6 +153,10 @@ nodesIn nodes schedules = listed (nodeCount nodes) (nodeIn nodes schedules)
 -- a node, as `nodeAt` has it of the job
 abbrev pub nodeOf : List ℕ → List ℕ → ℕ → ScheduledNode
 nodeOf nodes schedules y = getD (nodesIn nodes schedules) y record { kind = junction; schedule = [] }
+
+-- a node with its value at step n, as the solver takes it
+abbrev pub nodeAtStep : List ℕ → List ℕ → ℕ → ℕ → Node
+nodeAtStep nodes schedules y n = withValue (nodeOf nodes schedules y .kind) (entryAt (nodeOf nodes schedules y .schedule) n)
 
 -- ---- the job that the bytes hold
 

@@ -1,4 +1,5 @@
 pub mod Job
 pub mod Format
 pub mod Questions
+pub mod Asked
 pub mod Answer

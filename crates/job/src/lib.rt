@@ -1,7 +1,7 @@
 // The job: its format, the questions put to it, and what is read from it.
 ghost use mathlib.Core.Path.{_≡_};
 ghost use Rattle.job.specs.Questions.{refusal};
-ghost use Rattle.job.specs.Answer.{answerOf, answerTo};
+ghost use Rattle.job.specs.Answer.{paperAnswer, readAnswer};
 
 pub mod answer;
 pub mod nodes;
@@ -32,7 +32,7 @@ fn first_no(job: &[u8]) -> usize
 
 // Questions 1 to 15: the number of the first no, or what the job holds.
 pub fn read(job: &[u8]) -> Read
-    ensures { λ r. ⌜ answerOf r ≡ answerTo (now (job .entry)) ⌝ }
+    ensures { λ r. ⌜ paperAnswer r ≡ readAnswer (now (job .entry)) ⌝ }
 {
     let no = first_no(job);
     if no != 0 {

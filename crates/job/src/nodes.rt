@@ -1,12 +1,15 @@
 // The table of nodes, and questions 10 to 12.
 ghost use mathlib.Core.Path.{_≡_};
 ghost use mathlib.Core.Bool.{true};
-ghost use Prim.Native.Nat.{ℕ, _+_, _*_, _<_, _≤_};
+ghost use Prim.Native.Nat.{ℕ, _+_, _-_, _*_, _<_, _≤_, min};
 ghost use lib.ListN.{length};
 ghost use lib.Ieee.Scale.{finite};
 ghost use Rattle.fields.specs.Bytes.{f64At, finiteAt};
-ghost use Rattle.job.specs.Format.{pipeCount, pipeIn, nodeCount, kindNumber, scheduleCount, placeOf};
+ghost use Rattle.job.specs.Format.{pipeCount, pipeIn, nodeCount, kindNumber, scheduleCount, kindIn, placeOf, nodeOf, nodeAtStep};
+ghost use Rattle.job.specs.Job.{entryAt, withValue};
+ghost use Rattle.job.specs.Asked.{NodesRight};
 ghost use Rattle.job.specs.Questions.{notBelowZero, kindFits, kindsFit, allFinite, hasNoFigures, valveFits, pumpFits, figuresFitKind, figureFits, figuresFit, endsAt, hasEnd, nodesMet, pairQuestions, nodeQuestions, firstNo};
+use wave::Node;
 
 // The number of node y's kind.
 pub fn kind(nodes: &[u8], y: usize) -> usize
@@ -31,6 +34,55 @@ pub fn next_place(nodes: &[u8], y: usize, place: usize) -> usize
     ensures { λ r. ⌜ (r ≡ placeOf (now (nodes .entry)) (y + 1)) × (r ≤ (y + 1) * 256) ⌝ }
 {
     place + schedule_count(nodes, y)
+}
+
+// The entry that is read at a step, counted from 1, of `count` entries, counted from 0: the last from there on.
+fn entry_index(count: usize, step: usize) -> usize
+    requires { ⌜ (1 ≤ count) × (1 ≤ step) ⌝ }
+    ensures { λ r. ⌜ r ≡ min step count - 1 ⌝ }
+{
+    if step < count { step - 1 } else { count - 1 }
+}
+
+// v of node y at a step, counted from 1: its schedule begins at `place`.
+pub fn value_at(nodes: &[u8], schedules: &[u8], y: usize, place: usize, step: usize) -> f64
+    requires { ⌜ (NodesRight (now nodes) (now schedules)) × (y < nodeCount (now nodes)) × (place ≡ placeOf (now nodes) y) × (1 ≤ step) ⌝ }
+    ensures { λ r. ⌜ r ≡ entryAt (nodeOf (now (nodes .entry)) (now (schedules .entry)) y .schedule) step ⌝ }
+{
+    let i = entry_index(schedule_count(nodes, y), step);
+    fields::f64_at(schedules, (place + i) * 8)
+}
+
+// Node y with its figures and the value v.
+pub fn node_with(nodes: &[u8], y: usize, v: f64) -> Node
+    requires { ⌜ (figuresFit (now nodes) ≡ true) × (y < nodeCount (now nodes)) ⌝ }
+    ensures { λ r. ⌜ r ≡ withValue (kindIn (now (nodes .entry)) y) v ⌝ }
+{
+    let at = y * 26;
+    let k = kind(nodes, y);
+    match k {
+        0 => Node::Junction(v),
+        1 => Node::Reservoir(v),
+        2 => Node::Valve(
+            v,
+            fields::f64_at(nodes, at + 2),
+            fields::f64_at(nodes, at + 10),
+        ),
+        _ => Node::Pump(
+            v,
+            fields::f64_at(nodes, at + 2),
+            fields::f64_at(nodes, at + 10),
+            fields::f64_at(nodes, at + 18),
+        ),
+    }
+}
+
+// Node y at a step, counted from 1: its schedule begins at `place`.
+pub fn node_at(nodes: &[u8], schedules: &[u8], y: usize, place: usize, step: usize) -> Node
+    requires { ⌜ (NodesRight (now nodes) (now schedules)) × (y < nodeCount (now nodes)) × (place ≡ placeOf (now nodes) y) × (1 ≤ step) ⌝ }
+    ensures { λ r. ⌜ r ≡ nodeAtStep (now (nodes .entry)) (now (schedules .entry)) y step ⌝ }
+{
+    node_with(nodes, y, value_at(nodes, schedules, y, place, step))
 }
 
 // 10, of node y: is the kind 0 to 3 and the schedule count at least 1?

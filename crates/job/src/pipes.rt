@@ -173,19 +173,24 @@ pub fn first_no(job: &[u8]) -> usize
 {
     let pipes = super::pairs::table(job, 0);
     let nodes = super::pairs::table(job, 1);
-    if !holds_records(pipes, 12, 1, 32) {
+    let pipes_whole = holds_records(pipes, 12, 1, 32);
+    let nodes_whole = holds_records(nodes, 26, 2, 32);
+    let joined = pipes_join(pipes, nodes.len() / 26);
+    let few_sections = sections_fit(pipes);
+    let constants = constants_fit(pipes);
+    if !pipes_whole {
         return 5;
     }
-    if !holds_records(nodes, 26, 2, 32) {
+    if !nodes_whole {
         return 6;
     }
-    if !pipes_join(pipes, nodes.len() / 26) {
+    if !joined {
         return 7;
     }
-    if !sections_fit(pipes) {
+    if !few_sections {
         return 8;
     }
-    if !constants_fit(pipes) {
+    if !constants {
         return 9;
     }
     0

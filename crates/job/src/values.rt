@@ -4,8 +4,38 @@ ghost use mathlib.Core.Bool.{true};
 ghost use Prim.Native.Nat.{ℕ, _+_, _*_, _/_, _<_, _≤_};
 ghost use lib.ListN.{length};
 ghost use Rattle.loops.specs.Loops.{allBelow};
-ghost use Rattle.job.specs.Format.{nodeCount, rIn, sectionIn, placeOf, entryIn};
+ghost use Rattle.job.specs.Format.{nodeCount, rOf, sectionIn, initialOf, placeOf, entryIn};
 ghost use Rattle.job.specs.Questions.{rFits, frictionFits, frictionRight, finiteSection, sectionFits, initialFits, initialRight, entryFits, schedulesFit, schedulesRight, pairQuestions, valueQuestions, firstNo};
+
+// R of reach r.
+pub fn r_at(friction: &[u8], r: usize) -> f64
+    requires { ⌜ (frictionFits (now friction) ≡ true) × (r < length (now friction) / 8) ⌝ }
+    ensures { λ x. ⌜ x ≡ rOf (now (friction .entry)) r ⌝ }
+{
+    fields::f64_at(friction, r * 8)
+}
+
+// The initial head, the initial flow and the floor head of section s.
+pub fn head_at(initial: &[u8], s: usize) -> f64
+    requires { ⌜ (initialFits (now initial) ≡ true) × (s < length (now initial) / 24) ⌝ }
+    ensures { λ x. ⌜ x ≡ initialOf (now (initial .entry)) s .head ⌝ }
+{
+    fields::f64_at(initial, s * 24)
+}
+
+pub fn flow_at(initial: &[u8], s: usize) -> f64
+    requires { ⌜ (initialFits (now initial) ≡ true) × (s < length (now initial) / 24) ⌝ }
+    ensures { λ x. ⌜ x ≡ initialOf (now (initial .entry)) s .flow ⌝ }
+{
+    fields::f64_at(initial, s * 24 + 8)
+}
+
+pub fn floor_at(initial: &[u8], s: usize) -> f64
+    requires { ⌜ (initialFits (now initial) ≡ true) × (s < length (now initial) / 24) ⌝ }
+    ensures { λ x. ⌜ x ≡ initialOf (now (initial .entry)) s .floor ⌝ }
+{
+    fields::f64_at(initial, s * 24 + 16)
+}
 
 // 13, of reach r: is R finite and not below zero?
 fn r_fits(friction: &[u8], r: usize) -> bool

@@ -4,7 +4,7 @@ use native.Mathlib.Omega.{arith}
 use borrow.Author.Tests.{eq-eqb, ne-eqb}
 use Rattle.job.specs.Job.{sections}
 use Rattle.job.specs.Format.{jobOf}
-use Rattle.job.specs.Answer.{answerOf, answerTo}
+use Rattle.job.specs.Answer.{readAnswer}
 use Rattle.job.proofs.FirstNo.{none-refused}
 use Rattle.job.proofs.Tables.{pairs-right, size-least, table-short}
 use borrow.Author.Needs.{needs}
@@ -12,7 +12,7 @@ use Rattle.job.proofs.read.Statement.{statement}
 use Rattle.job.proofs.read.Tie as tie
 
 returns : tie.Need-returns
-unfolding answerOf answerTo
+unfolding readAnswer
 returns c = rw (← c .before .first-no .ensures, ne-eqb _ _ (c .if1 .taken))
 
 table-requires : tie.Need-table-requires
@@ -29,7 +29,7 @@ listing-steps-requires c κs =
     omega (arith, size-least _ (pairs-right _ (none-refused _ (sym (q .before .first-no .ensures) ∙ q .if1 .left) .pairs) .size))
 
 returns-2 : tie.Need-returns-2
-unfolding answerOf answerTo jobOf sections
+unfolding readAnswer jobOf sections
 returns-2 c =
     let q = c .before .before .before in
     rw (c .before .section-count .ensures .0, c .before .before .table .ensures, c .listing-steps .ensures, ← q .before .first-no .ensures, eq-eqb _ _ (q .if1 .left))

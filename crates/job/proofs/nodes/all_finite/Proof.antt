@@ -7,7 +7,7 @@ use Rattle.job.proofs.nodes.all_finite.Tie as tie
 
 returns : tie.Need-returns
 unfolding allFinite finiteAt
-returns c = rw (c .before .before .finite-at .ensures, c .before .finite-at2 .ensures, c .finite-at3 .ensures)
+returns c = cc
 
 pub all-finite-spec : {M : Type 1} → statement M
 all-finite-spec =

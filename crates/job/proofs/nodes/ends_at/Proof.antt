@@ -6,7 +6,7 @@ use Rattle.job.proofs.nodes.ends_at.Tie as tie
 
 returns : tie.Need-returns
 unfolding endsAt
-returns c = rw (c .before .start .ensures .0, c .finish .ensures .0)
+returns c = cc
 
 pub ends-at-spec : {M : Type 1} → statement M
 ends-at-spec = tie.close (tie.spec (λ c κs. search needs) (λ c κs. search needs) returns)

@@ -6,7 +6,7 @@ use Rattle.job.proofs.nodes.has_no_figures.Tie as tie
 
 returns : tie.Need-returns
 unfolding hasNoFigures
-returns c = rw (c .before .before .zero-bits-at .ensures, c .before .zero-bits-at2 .ensures, c .zero-bits-at3 .ensures)
+returns c = cc
 
 pub has-no-figures-spec : {M : Type 1} → statement M
 has-no-figures-spec =

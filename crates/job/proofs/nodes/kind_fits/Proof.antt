@@ -6,7 +6,7 @@ use Rattle.job.proofs.nodes.kind_fits.Tie as tie
 
 returns : tie.Need-returns
 unfolding kindFits
-returns c = rw (c .before .kind .ensures .0, c .schedule-count .ensures .0)
+returns c = cc
 
 pub kind-fits-spec : {M : Type 1} → statement M
 kind-fits-spec = tie.close (tie.spec (λ c κs. search needs) (λ c κs. search needs) returns)

@@ -4,7 +4,7 @@ use Rattle.job.proofs.nodes.not_below_zero.Statement.{statement}
 use Rattle.job.proofs.nodes.not_below_zero.Tie as tie
 
 returns : tie.Need-returns
-returns c = rw (c .f64-at .ensures)
+returns c = cc
 
 pub not-below-zero-spec : {M : Type 1} → statement M
 not-below-zero-spec = tie.close (tie.spec (λ c κs. search needs) returns)

@@ -13,7 +13,7 @@ not-below-zero-requires-2 c κs = (search needs, finite-figures _ _ (c .before .
 
 returns : tie.Need-returns
 unfolding pumpFits
-returns c = rw (c .before .not-below-zero .ensures, c .not-below-zero2 .ensures)
+returns c = cc
 
 pub pump-fits-spec : {M : Type 1} → statement M
 pump-fits-spec =

@@ -6,7 +6,7 @@ use Rattle.job.proofs.pairs.steps_fit.Tie as tie
 
 returns : tie.Need-returns
 unfolding stepsFit
-returns c = rw (c .listing-steps .ensures)
+returns c = cc
 
 pub steps-fit-spec : {M : Type 1} → statement M
 steps-fit-spec = tie.close (tie.spec (λ c κs. search needs) returns)

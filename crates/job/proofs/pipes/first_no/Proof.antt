@@ -1,105 +1,87 @@
 -- `job::pipes::first_no` meets its contract: at each return the questions before it have a yes. Assumes nothing.
-use Rattle.job.proofs.FirstNo.{is-yes, is-no}
-use Rattle.job.proofs.Tables.{pairs-right, table-short}
+use mathlib.Core.Path.{_≡_}
+use mathlib.Core.Bool.{true, false, cond}
 use native.Mathlib.Omega.{arith}
+use denote.Ref.{now}
+use borrow.Author.Tests.{not-true, not-false}
 use Rattle.job.specs.Questions.{pipeQuestions, firstNo}
+use Rattle.job.proofs.Tables.{pairs-right, table-short}
 use borrow.Author.Needs.{needs}
 use Rattle.job.proofs.pipes.first_no.Statement.{statement}
 use Rattle.job.proofs.pipes.first_no.Tie as tie
 
-returns : tie.Need-returns
+-- the table's rows, each by the answer that was worked out
+rows :
+    (c : tie.After-constants-fit)
+    → firstNo pipeQuestions (now (c .before .before .before .before .before .before .before .before .args .job))
+    ≡ cond (c .before .before .before .before .holds-records .result) (cond (c .before .before .before .holds-records2 .result) (cond (c .before .before .pipes-join .result) (cond (c .before .sections-fit .result) (cond (c .constants-fit .result) 0 9) 8) 7) 6) 5
 unfolding pipeQuestions firstNo
-returns c =
-    let t = c .before .before in
+rows c =
     rw (
-      ← t .before .table .ensures,
-      ← t .table2 .ensures,
-      is-no (c .before .holds-records .ensures) (c .if1 .taken),
+      ← c .before .before .before .before .before .before .table .ensures,
+      ← c .before .before .before .before .before .table2 .ensures,
+      ← c .before .before .before .before .holds-records .ensures,
+      ← c .before .before .before .holds-records2 .ensures,
+      ← c .before .before .pipes-join .ensures,
+      ← c .before .sections-fit .ensures,
+      ← c .constants-fit .ensures,
     )
 
-returns-2 : tie.Need-returns-2
-unfolding pipeQuestions firstNo
-returns-2 c =
-    let q1 = c .before .before in
-    let t = q1 .before .before in
-    rw (
-      ← t .before .table .ensures,
-      ← t .table2 .ensures,
-      is-yes (q1 .before .holds-records .ensures) (q1 .if1 .left),
-      is-no (c .before .holds-records2 .ensures) (c .if2 .taken),
-    )
+-- what a branch says of an answer
+no-5 : (c : tie.Then1) → c .before .before .before .before .before .holds-records .result ≡ false
+no-5 c = not-true _ (c .if1 .taken)
 
-returns-3 : tie.Need-returns-3
-unfolding pipeQuestions firstNo
-returns-3 c =
-    let q2 = c .before .before in
-    let q1 = q2 .before .before in
-    let t = q1 .before .before in
-    rw (
-      ← t .before .table .ensures,
-      ← t .table2 .ensures,
-      is-yes (q1 .before .holds-records .ensures) (q1 .if1 .left),
-      is-yes (q2 .before .holds-records2 .ensures) (q2 .if2 .left),
-      is-no (c .before .pipes-join .ensures) (c .if3 .taken),
-    )
+yes-5 : (c : tie.Else1) → c .before .before .before .before .before .holds-records .result ≡ true
+yes-5 c = not-false _ (c .if1 .left)
+
+no-6 : (c : tie.Then2) → c .before .before .before .before .before .holds-records2 .result ≡ false
+no-6 c = not-true _ (c .if2 .taken)
+
+yes-6 : (c : tie.Else2) → c .before .before .before .before .before .holds-records2 .result ≡ true
+yes-6 c = not-false _ (c .if2 .left)
+
+no-7 : (c : tie.Then3) → c .before .before .before .before .before .pipes-join .result ≡ false
+no-7 c = not-true _ (c .if3 .taken)
+
+yes-7 : (c : tie.Else3) → c .before .before .before .before .before .pipes-join .result ≡ true
+yes-7 c = not-false _ (c .if3 .left)
+
+no-8 : (c : tie.Then4) → c .before .before .before .before .before .sections-fit .result ≡ false
+no-8 c = not-true _ (c .if4 .taken)
+
+yes-8 : (c : tie.Else4) → c .before .before .before .before .before .sections-fit .result ≡ true
+yes-8 c = not-false _ (c .if4 .left)
+
+no-9 : (c : tie.Then5) → c .before .before .before .before .before .constants-fit .result ≡ false
+no-9 c = not-true _ (c .if5 .taken)
+
+yes-9 : (c : tie.Else5) → c .before .before .before .before .before .constants-fit .result ≡ true
+yes-9 c = not-false _ (c .if5 .left)
 
 sections-fit-requires : tie.Need-sections-fit-requires
 sections-fit-requires c κs =
-    let t = c .before .before .before .before .before .before in
+    let t = c .before .before .before in
     rw (t .before .table .ensures) (table-short _ (pairs-right _ (t .before .before .before .pre)) 0 (omega arith))
 
+returns : tie.Need-returns
+returns c = rw (rows (c .before), no-5 c)
+
+returns-2 : tie.Need-returns-2
+returns-2 c = rw (rows (c .before .before), yes-5 (c .before), no-6 c)
+
+returns-3 : tie.Need-returns-3
+returns-3 c = rw (rows (c .before .before .before), yes-5 (c .before .before), yes-6 (c .before), no-7 c)
+
 returns-4 : tie.Need-returns-4
-unfolding pipeQuestions firstNo
-returns-4 c =
-    let q3 = c .before .before in
-    let q2 = q3 .before .before in
-    let q1 = q2 .before .before in
-    let t = q1 .before .before in
-    rw (
-      ← t .before .table .ensures,
-      ← t .table2 .ensures,
-      is-yes (q1 .before .holds-records .ensures) (q1 .if1 .left),
-      is-yes (q2 .before .holds-records2 .ensures) (q2 .if2 .left),
-      is-yes (q3 .before .pipes-join .ensures) (q3 .if3 .left),
-      is-no (c .before .sections-fit .ensures) (c .if4 .taken),
-    )
+returns-4 c = rw (rows (c .before .before .before .before), yes-5 (c .before .before .before), yes-6 (c .before .before), yes-7 (c .before), no-8 c)
 
 returns-5 : tie.Need-returns-5
-unfolding pipeQuestions firstNo
 returns-5 c =
-    let q4 = c .before .before in
-    let q3 = q4 .before .before in
-    let q2 = q3 .before .before in
-    let q1 = q2 .before .before in
-    let t = q1 .before .before in
-    rw (
-      ← t .before .table .ensures,
-      ← t .table2 .ensures,
-      is-yes (q1 .before .holds-records .ensures) (q1 .if1 .left),
-      is-yes (q2 .before .holds-records2 .ensures) (q2 .if2 .left),
-      is-yes (q3 .before .pipes-join .ensures) (q3 .if3 .left),
-      is-yes (q4 .before .sections-fit .ensures) (q4 .if4 .left),
-      is-no (c .before .constants-fit .ensures) (c .if5 .taken),
-    )
+    rw (rows (c .before .before .before .before .before), yes-5 (c .before .before .before .before), yes-6 (c .before .before .before), yes-7 (c .before .before), yes-8 (c .before), no-9 c)
 
 returns-6 : tie.Need-returns-6
-unfolding pipeQuestions firstNo
 returns-6 c =
-    let q5 = c in
-    let q4 = q5 .before .before in
-    let q3 = q4 .before .before in
-    let q2 = q3 .before .before in
-    let q1 = q2 .before .before in
-    let t = q1 .before .before in
-    rw (
-      ← t .before .table .ensures,
-      ← t .table2 .ensures,
-      is-yes (q1 .before .holds-records .ensures) (q1 .if1 .left),
-      is-yes (q2 .before .holds-records2 .ensures) (q2 .if2 .left),
-      is-yes (q3 .before .pipes-join .ensures) (q3 .if3 .left),
-      is-yes (q4 .before .sections-fit .ensures) (q4 .if4 .left),
-      is-yes (q5 .before .constants-fit .ensures) (q5 .if5 .left),
-    )
+    rw (rows (c .before .before .before .before .before), yes-5 (c .before .before .before .before), yes-6 (c .before .before .before), yes-7 (c .before .before), yes-8 (c .before), yes-9 c)
 
 pub first-no-spec : {M : Type 1} → statement M
 first-no-spec =
@@ -108,13 +90,13 @@ first-no-spec =
     (λ c κs. search needs)
     (λ c κs. search needs)
     (λ c κs. search needs)
-    returns
     (λ c κs. search needs)
-    returns-2
     (λ c κs. search needs)
-    returns-3
     sections-fit-requires
-    returns-4
     (λ c κs. search needs)
+    returns
+    returns-2
+    returns-3
+    returns-4
     returns-5
     returns-6)

@@ -6,7 +6,7 @@ use Rattle.job.proofs.pipes.sections_fit.Tie as tie
 
 returns : tie.Need-returns
 unfolding sectionsFit
-returns c = rw (c .section-count .ensures .0)
+returns c = cc
 
 pub sections-fit-spec : {M : Type 1} → statement M
 sections-fit-spec = tie.close (tie.spec (λ c κs. search needs) returns)

@@ -7,7 +7,7 @@ use Rattle.job.proofs.values.finite_section.Tie as tie
 
 returns : tie.Need-returns
 unfolding finiteSection finiteAt
-returns c = rw (c .before .before .finite-at .ensures, c .before .finite-at2 .ensures, c .finite-at3 .ensures)
+returns c = cc
 
 pub finite-section-spec : {M : Type 1} → statement M
 finite-section-spec =

@@ -6,7 +6,7 @@ use Rattle.job.proofs.values.friction_right.Tie as tie
 
 returns : tie.Need-returns
 unfolding frictionRight
-returns c = rw (c .before .reach-count .ensures .0, c .friction-fits .ensures)
+returns c = cc
 
 pub friction-right-spec : {M : Type 1} → statement M
 friction-right-spec = tie.close (tie.spec (λ c κs. search needs) (λ c. search needs) (λ c κs. search needs) returns)

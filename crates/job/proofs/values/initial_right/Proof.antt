@@ -6,7 +6,7 @@ use Rattle.job.proofs.values.initial_right.Tie as tie
 
 returns : tie.Need-returns
 unfolding initialRight
-returns c = rw (c .before .section-count .ensures .0, c .initial-fits .ensures)
+returns c = cc
 
 pub initial-right-spec : {M : Type 1} → statement M
 initial-right-spec = tie.close (tie.spec (λ c κs. search needs) (λ c. search needs) (λ c κs. search needs) returns)

@@ -1,0 +1,18 @@
+-- `job::values::floor_at` meets its contract. Assumes nothing.
+use mathlib.Core.Path.{_≡_, sym, ap, _∙_}
+use Rattle.fields.specs.Bytes.{finiteAt}
+use Rattle.job.specs.Job.{Initial}
+use Rattle.job.proofs.SectionLaws.{section-finite, section-is}
+use borrow.Author.Needs.{needs}
+use Rattle.job.proofs.values.floor_at.Statement.{statement}
+use Rattle.job.proofs.values.floor_at.Tie as tie
+
+f64-at-requires : tie.Need-f64-at-requires
+unfolding finiteAt
+f64-at-requires c κs = let s = c .before in (search needs, section-finite _ (s .pre .0) _ (s .pre .1) .floor)
+
+returns : tie.Need-returns
+returns c = let s = c .before .before in c .f64-at .ensures ∙ sym (ap (λ (i : Initial). i .floor) (section-is _ _ (s .pre .1)))
+
+pub floor-at-spec : {M : Type 1} → statement M
+floor-at-spec = tie.close (tie.spec (λ c. search needs) (λ c. search needs) f64-at-requires returns)

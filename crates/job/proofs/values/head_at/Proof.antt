@@ -1,0 +1,18 @@
+-- `job::values::head_at` meets its contract. Assumes nothing.
+use mathlib.Core.Path.{_≡_, sym, ap, _∙_}
+use Rattle.fields.specs.Bytes.{finiteAt}
+use Rattle.job.specs.Job.{Initial}
+use Rattle.job.proofs.SectionLaws.{section-finite, section-is}
+use borrow.Author.Needs.{needs}
+use Rattle.job.proofs.values.head_at.Statement.{statement}
+use Rattle.job.proofs.values.head_at.Tie as tie
+
+f64-at-requires : tie.Need-f64-at-requires
+unfolding finiteAt
+f64-at-requires c κs = let s = c .before in (search needs, section-finite _ (s .pre .0) _ (s .pre .1) .head)
+
+returns : tie.Need-returns
+returns c = let s = c .before .before in c .f64-at .ensures ∙ sym (ap (λ (i : Initial). i .head) (section-is _ _ (s .pre .1)))
+
+pub head-at-spec : {M : Type 1} → statement M
+head-at-spec = tie.close (tie.spec (λ c. search needs) f64-at-requires returns)

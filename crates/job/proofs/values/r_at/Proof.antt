@@ -1,0 +1,17 @@
+-- `job::values::r_at` meets its contract. Assumes nothing.
+use mathlib.Core.Path.{_≡_, sym, _∙_}
+use Rattle.fields.specs.Bytes.{finiteAt}
+use Rattle.job.proofs.SectionLaws.{r-finite, r-is}
+use borrow.Author.Needs.{needs}
+use Rattle.job.proofs.values.r_at.Statement.{statement}
+use Rattle.job.proofs.values.r_at.Tie as tie
+
+f64-at-requires : tie.Need-f64-at-requires
+unfolding finiteAt
+f64-at-requires c κs = let s = c .before in (search needs, r-finite _ (s .pre .0) _ (s .pre .1))
+
+returns : tie.Need-returns
+returns c = let s = c .before .before in c .f64-at .ensures ∙ sym (r-is _ _ (s .pre .1))
+
+pub r-at-spec : {M : Type 1} → statement M
+r-at-spec = tie.close (tie.spec (λ c. search needs) f64-at-requires returns)
