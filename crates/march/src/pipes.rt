@@ -93,7 +93,7 @@ fn write_pipe(
 // The new heads and flows of every section at step n; t has T of each node.
 pub fn work_out(
     job: &[u8],
-    n: u64,
+    n: usize,
     t: &[f64; 32],
     heads: &[f64],
     flows: &[f64],
