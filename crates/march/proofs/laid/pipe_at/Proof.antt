@@ -1,0 +1,43 @@
+-- `march::laid::pipe_at` meets its contract: each field is read from the pipe's own record. Assumes nothing.
+use borrow.Author.Needs.{needs}
+use Rattle.march.proofs.Accept.{pairs-accepted, constant-finite}
+use Rattle.march.proofs.laid.pipe_at.Statement.{statement}
+use Rattle.march.proofs.laid.pipe_at.Tie as tie
+
+table-requires : tie.Need-table-requires
+table-requires c κs = (pairs-accepted _ (c .before .pre .0 .0), search needs)
+
+start-requires : tie.Need-start-requires
+start-requires c κs = rw (c .table .ensures) (c .before .before .pre .0 .1)
+
+finish-requires : tie.Need-finish-requires
+finish-requires c κs = start-requires (c .before) κs
+
+reaches-requires : tie.Need-reaches-requires
+reaches-requires c κs = start-requires (c .before .before) κs
+
+constant-requires : tie.Need-constant-requires
+constant-requires c κs =
+    let pre = c .before .before .before .before .before .pre in
+    rw (c .before .before .before .table .ensures) (pre .0 .1, constant-finite _ (pre .0 .0) _ (pre .0 .1))
+
+returns : tie.Need-returns
+returns c =
+    let t = c .before .before .before .before .table .ensures in
+    let w = c .before .before .before .before .before .before .pre .1 in
+    let a = rw t at (c .before .before .before .start .ensures .0) in
+    let b = rw t at (c .before .before .finish .ensures .0) in
+    let n = rw t at (c .before .reaches .ensures .0) in
+    let s = rw t at (c .constant .ensures) in
+    λ i. record { pipe = record { start = a i; finish = b i; reaches = n i; S = s i }; first = w .sections-passed i; reach = w .reaches-passed i }
+
+pub pipe-at-spec : {M : Type 1} → statement M
+pipe-at-spec =
+    tie.close
+    (tie.spec
+    table-requires
+    start-requires
+    finish-requires
+    reaches-requires
+    constant-requires
+    returns)

@@ -1,0 +1,103 @@
+-- `march::nodes::node_heads` meets its contract: the row is filled up to node y, whose schedule begins at the place carried. Assumes nothing.
+use mathlib.Core.Path.{_≡_, refl, sym, ap, _∙_}
+use Prim.Native.Nat.{ℕ, _-_, _*_, _<_, _≤_}
+use native.Mathlib.Omega.{arith}
+use lib.ListN.{length, replicate}
+use borrow.Author.Needs.{needs}
+use Rattle.fields.specs.Real.{zero64}
+use Rattle.loops.proofs.Fill.{Upto, upto-none, upto-step, upto-done}
+use Rattle.job.specs.Job.{nodeAt, scheduled}
+use Rattle.job.specs.Format.{jobOf, nodeTable, nodeCount, placeOf}
+use Rattle.job.proofs.Tables.{table-short}
+use Rattle.job.proofs.Accepted.{tables-right}
+use Rattle.recurrence.specs.Step.{nodeNow}
+use Rattle.march.specs.March.{headBy}
+use Rattle.march.proofs.Accept.{pairs-accepted, few-nodes}
+use Rattle.march.proofs.nodes.node_heads.Statement.{statement}
+use Rattle.march.proofs.nodes.node_heads.Tie as tie
+
+abbrev Inv-loop : tie.InvT-loop
+Inv-loop job n b t nodes schedules count heads₀ place₀ y₀ heads place y =
+    (place ≡ placeOf nodes y) × (place ≤ y * 256) × (Upto (headBy job n b t) (replicate 32 zero64) 0 count y heads)
+
+abbrev μ-loop : tie.MeasureT-loop
+μ-loop job n b t nodes schedules count heads₀ place₀ y₀ heads place y = count - y
+
+table-requires : tie.Need-table-requires Inv-loop μ-loop
+table-requires c κs = (pairs-accepted _ (c .before .pre .0), search needs)
+
+table-requires-2 : tie.Need-table-requires-2 Inv-loop μ-loop
+table-requires-2 c κs = (pairs-accepted _ (c .before .before .pre .0), search needs)
+
+loop-holds : tie.Need-loop-holds Inv-loop μ-loop
+unfolding placeOf
+loop-holds c = (refl, search needs, upto-none)
+
+-- the loop has not passed the last node
+low : (c : tie.In-loop Inv-loop μ-loop) → c .before .loop .y < 32
+low c = omega (arith, few-nodes _ (c .before .before .before .before .before .pre .0), ap length (c .before .before .before .table .ensures))
+
+node-at-requires : tie.Need-node-at-requires Inv-loop μ-loop
+node-at-requires c κs =
+    let pre = c .before .before .before .before .before .pre in
+    (rw (c .before .before .before .table .ensures, c .before .before .table2 .ensures) (tables-right _ (pre .0) .nodes), c .loop-test .taken, c .before .loop .inv .0, pre .1)
+
+next-place-requires : tie.Need-next-place-requires Inv-loop μ-loop
+next-place-requires c κs =
+    let t = c .before .before .before .before in
+    let ok = c .before .before .before .before .before .before .before .before .before .pre .0 in
+    (t .before .loop .inv .0, t .before .loop .inv .1, t .loop-test .taken, rw (c .before .before .before .before .before .before .before .table .ensures) (table-short _ (tables-right _ ok .pairs) 1 (omega arith)))
+
+mul-heads : tie.Need-mul-heads Inv-loop μ-loop
+mul-heads c = omega (arith, low (c .before))
+
+element-copy-out-heads : tie.Need-element-copy-out-heads Inv-loop μ-loop
+element-copy-out-heads c = low (c .before)
+
+mul-t19 : tie.Need-mul-t19 Inv-loop μ-loop
+mul-t19 c = omega (arith, low (c .before .before))
+
+element-copy-out-t22 : tie.Need-element-copy-out-t22 Inv-loop μ-loop
+element-copy-out-t22 c = low (c .before .before)
+
+mul-heads-2 : tie.Need-mul-heads-2 Inv-loop μ-loop
+mul-heads-2 c = omega (arith, low (c .before .before .before .before))
+
+array-write-heads : tie.Need-array-write-heads Inv-loop μ-loop
+array-write-heads c = low (c .before .before .before .before)
+
+-- the node read is the recurrence's
+read : (c : tie.After-node-at Inv-loop μ-loop) → c .node-at .result ≡ nodeNow (jobOf (c .before .before .before .before .before .before .args .job .now)) (c .before .before .before .before .before .before .args .n) (c .before .before .loop .y)
+unfolding nodeNow nodeAt scheduled jobOf
+read c = c .node-at .ensures ∙ rw (c .before .before .before .before .table .ensures, c .before .before .before .table2 .ensures)
+
+loop-again : tie.Need-loop-again Inv-loop μ-loop
+loop-again c =
+    let t = c .before .before .before .before .before in
+    (c .next-place .ensures .0, c .next-place .ensures .1, upto-step (t .before .loop .inv .2) (t .loop-test .taken) (omega arith) (c .before .node-head .ensures ∙ rw (read (c .before .before .before .before))))
+
+returns : tie.Need-returns Inv-loop μ-loop
+returns c = upto-done (c .before .loop .inv .2) (c .loop-test .left) ∙ rw (c .before .before .before .table .ensures)
+
+pub node-heads-spec : {M : Type 1} → statement M
+node-heads-spec =
+    tie.close
+    (tie.spec
+    Inv-loop
+    μ-loop
+    table-requires
+    table-requires-2
+    loop-holds
+    node-at-requires
+    mul-heads
+    element-copy-out-heads
+    mul-t19
+    element-copy-out-t22
+    (λ c κs. search needs)
+    mul-heads-2
+    array-write-heads
+    next-place-requires
+    (λ c. search needs)
+    (λ c. search needs)
+    loop-again
+    returns)

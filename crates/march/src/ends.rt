@@ -1,0 +1,92 @@
+// The ends of the pipes: K at each, and the sums B and T of each node.
+ghost use mathlib.Core.Path.{_≡_};
+ghost use mathlib.Core.Bool.{false};
+ghost use Prim.Native.Nat.{ℕ, _<_};
+ghost use lib.Dec.{eqb};
+ghost use lib.ListN.{getD, set};
+ghost use lib.Ieee.{nan};
+ghost use Rattle.fields.specs.Real.{_⊞_};
+ghost use Rattle.job.specs.Job.{frictionAt};
+ghost use Rattle.job.specs.Format.{jobOf, pipeTable, pipeCount};
+ghost use Rattle.job.specs.Questions.{Accepted};
+ghost use Rattle.recurrence.specs.Step.{inputs, kAtStart, kAtFinish};
+ghost use Rattle.march.specs.March.{reachesTo, pipeOf, laidOf, LaidPipe, Lent, old, flowSums, constantSums};
+use super::laid::Laid;
+
+// R of a reach.
+fn friction_at(job: &[u8], r: usize) -> f64
+    requires { ⌜ (Accepted (now job)) × (r < reachesTo (pipeOf (now job)) (pipeCount (pipeTable (now job)))) ⌝ }
+    ensures { λ x. ⌜ x ≡ frictionAt (jobOf (now (job .entry))) r ⌝ }
+{
+    fields::f64_at(job::pairs::table(job, 2), r * 8)
+}
+
+// K at a pipe's start, by its section 1.
+pub fn k_at_start(job: &[u8], l: Laid, heads: &[f64], flows: &[f64]) -> f64
+    requires { ⌜ (Lent (now job) (now heads) (now flows)) × (LaidPipe (now job) (laidOf l)) ⌝ }
+    ensures { λ r. ⌜ r ≡ kAtStart (inputs (jobOf (now (job .entry))) 0) (old (now (job .entry)) (now (heads .entry)) (now (flows .entry))) (laidOf l) ⌝ }
+{
+    let at = l.first + 1;
+    wave::start_k(l.s, friction_at(job, l.reach), heads[at], flows[at])
+}
+
+// K at a pipe's finish, by the section above it.
+pub fn k_at_finish(job: &[u8], l: Laid, heads: &[f64], flows: &[f64]) -> f64
+    requires { ⌜ (Lent (now job) (now heads) (now flows)) × (LaidPipe (now job) (laidOf l)) ⌝ }
+    ensures { λ r. ⌜ r ≡ kAtFinish (inputs (jobOf (now (job .entry))) 0) (old (now (job .entry)) (now (heads .entry)) (now (flows .entry))) (laidOf l) ⌝ }
+{
+    let i = l.reaches - 1;
+    let at = l.first + i;
+    wave::finish_k(l.s, friction_at(job, l.reach + i), heads[at], flows[at])
+}
+
+// The sums of the nodes with a pipe's two ends added.
+fn add_ends(sums: &mut [f64; 32], start: usize, finish: usize, at_start: f64, at_finish: f64)
+    requires { ⌜ (start < 32) × (finish < 32) × (eqb start finish ≡ false) ⌝ }
+    ensures { λ _. ⌜ now (sums .exit) ≡ set (set (now (sums .entry)) start (getD (now (sums .entry)) start nan ⊞ «at_start»)) finish (getD (now (sums .entry)) finish nan ⊞ «at_finish») ⌝ }
+{
+    sums[start] = sums[start] + at_start;
+    sums[finish] = sums[finish] + at_finish;
+}
+
+// T of each node.
+pub fn constant_sums(job: &[u8]) -> [f64; 32]
+    requires { ⌜ Accepted (now job) ⌝ }
+    ensures { λ r. ⌜ r ≡ constantSums (now (job .entry)) ⌝ }
+{
+    let count = super::laid::pipe_count(job);
+    let mut sums = [0.0f64; 32];
+    let mut first = 0;
+    let mut reach = 0;
+    let mut p = 0;
+    while p < count {
+        let l = super::laid::pipe_at(job, p, first, reach);
+        add_ends(&mut sums, l.start, l.finish, l.s, l.s);
+        first = first + l.reaches + 1;
+        reach = reach + l.reaches;
+        p += 1;
+    }
+    sums
+}
+
+// B of each node.
+pub fn flow_sums(job: &[u8], heads: &[f64], flows: &[f64]) -> [f64; 32]
+    requires { ⌜ Lent (now job) (now heads) (now flows) ⌝ }
+    ensures { λ r. ⌜ r ≡ flowSums (now (job .entry)) (now (heads .entry)) (now (flows .entry)) ⌝ }
+{
+    let count = super::laid::pipe_count(job);
+    let mut sums = [0.0f64; 32];
+    let mut first = 0;
+    let mut reach = 0;
+    let mut p = 0;
+    while p < count {
+        let l = super::laid::pipe_at(job, p, first, reach);
+        let top = k_at_start(job, l, heads, flows);
+        let foot = k_at_finish(job, l, heads, flows);
+        add_ends(&mut sums, l.start, l.finish, top, foot);
+        first = first + l.reaches + 1;
+        reach = reach + l.reaches;
+        p += 1;
+    }
+    sums
+}

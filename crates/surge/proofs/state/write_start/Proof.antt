@@ -1,0 +1,61 @@
+-- `surge::state::write_start` meets its contract. Assumes nothing.
+use mathlib.Core.Path.{_≡_, refl, _∙_}
+use mathlib.Core.Bool.{true}
+use mathlib.Core.List.{List}
+use Prim.Native.Nat.{ℕ, _*_, _≤_}
+use native.Mathlib.Omega.{arith}
+use lib.ListN.{length}
+use borrow.Author.Needs.{needs}
+use Rattle.job.specs.Job.{initialAt}
+use Rattle.job.specs.Format.{jobOf, initialTable}
+use Rattle.job.specs.Questions.{initialFits}
+use Rattle.job.proofs.Accepted.{initial-length, initial-fits}
+use Rattle.march.proofs.Accept.{pairs-accepted}
+use Rattle.surge.proofs.state.write_start.Statement.{statement}
+use Rattle.surge.proofs.state.write_start.Tie as tie
+
+table-requires : tie.Need-table-requires
+table-requires c κs = (pairs-accepted _ (c .before .before .before .before .before .pre .0 .0), search needs)
+
+-- table 4 has the job's sections
+fits : (c : tie.After-table) → (initialFits (c .table .result .now) ≡ true) × (c .before .before .before .before .before .before .args .n * 24 ≤ length (c .table .result .now))
+fits c =
+    let pre = c .before .before .before .before .before .before .pre in
+    rw (c .table .ensures) (initial-fits _ (pre .0 .0), omega (arith, initial-length _ (pre .0 .0), pre .0 .1))
+
+write-heads-requires : tie.Need-write-heads-requires
+write-heads-requires c κs = let f = fits (c .before) in (f .0, f .1, c .before .before .before .before .before .before .before .pre .1 .0)
+
+write-flows-requires : tie.Need-write-flows-requires
+write-flows-requires c κs = let f = fits (c .before .before .before .before .before) in (f .0, f .1, c .before .before .before .before .before .before .before .before .before .before .before .pre .1 .1)
+
+write-heads-requires-2 : tie.Need-write-heads-requires-2
+write-heads-requires-2 c κs = let f = fits (c .before .before .before .before .before .before .before .before .before) in (f .0, f .1, c .before .before .before .before .before .before .before .before .before .before .before .before .before .before .before .pre .1 .2)
+
+write-heads-requires-3 : tie.Need-write-heads-requires-3
+write-heads-requires-3 c κs = let f = fits (c .before .before .before .before .before .before .before .before .before .before .before .before .before) in (f .0, f .1, c .before .before .before .before .before .before .before .before .before .before .before .before .before .before .before .before .before .before .before .pre .1 .3)
+
+returns : tie.Need-returns
+unfolding initialAt jobOf
+returns c =
+    let t = c .before .before .before .before .before .before .before .before .before .before .before .before .before .before .before .before .table .ensures in (
+      c .before .before .before .before .before .before .before .before .before .before .before .before .before .before .write-heads .ensures ∙ rw t,
+      c .before .before .before .before .before .before .before .before .before .before .write-flows .ensures ∙ rw t,
+      c .before .before .before .before .before .before .write-heads2 .ensures ∙ rw t,
+      c .before .before .write-heads3 .ensures ∙ rw t,
+    )
+
+pub write-start-spec : {M : Type 1} → statement M
+write-start-spec =
+    tie.close
+    (tie.spec
+    table-requires
+    write-heads-requires
+    write-flows-requires
+    write-heads-requires-2
+    write-heads-requires-3
+    (λ c. search needs)
+    (λ c. search needs)
+    (λ c. search needs)
+    (λ c. search needs)
+    returns)

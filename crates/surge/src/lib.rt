@@ -1,0 +1,199 @@
+// The start and the run-on, over six lent rows.
+ghost use mathlib.Core.Path.{_≡_};
+ghost use mathlib.Core.Bool.{true, _&&_};
+ghost use Prim.Native.Nat.{ℕ, _+_, _≤_};
+ghost use lib.Dec.{leb};
+ghost use Rattle.job.specs.Format.{jobOf};
+ghost use Rattle.recurrence.specs.State.{State};
+ghost use Rattle.recurrence.specs.Run.{answerOf, started, ran, completed, steps, withinLimit};
+ghost use Rattle.recurrence.specs.Calls.{stateIn, called, startCall, runOnCall};
+ghost use Rattle.surge.specs.Answers.{paperAnswer, six, left};
+ghost use Rattle.surge.specs.Inner.{Ready, resultOf};
+
+pub mod answer;
+pub mod run;
+pub mod state;
+pub mod step;
+
+pub use answer::Answer;
+use job::Read;
+use rows::Scan;
+use run::Ended;
+
+// The most steps that a run may come to.
+const LIMIT: u64 = 1000000;
+
+// Question 20, of the section count and the lengths of the six rows.
+fn enough(n: usize, a: usize, b: usize, c: usize, d: usize, e: usize, f: usize) -> bool
+    ensures { λ r. ⌜ r ≡ leb n a && leb n b && leb n c && leb n d && leb n e && leb n f ⌝ }
+{
+    (n <= a) & (n <= b) & (n <= c) & (n <= d) & (n <= e) & (n <= f)
+}
+
+// Question 21.
+fn within_limit(done: u64, count: u64) -> bool
+    ensures { λ r. ⌜ r ≡ withinLimit done count ⌝ }
+{
+    if done <= LIMIT {
+        count <= LIMIT - done
+    } else {
+        false
+    }
+}
+
+// The answer of a run.
+fn answer_of(ended: Ended) -> Answer
+    ensures { λ r. ⌜ ((st : State) → paperAnswer r ≡ answerOf (resultOf ended st)) ⌝ }
+{
+    let found = ended.found;
+    match found {
+        Scan::Sound => Answer::Done(ended.steps),
+        Scan::NotFinite(s) => Answer::NotFinite(ended.steps, s),
+        Scan::Parted(s) => Answer::Parted(ended.steps, s),
+    }
+}
+
+// The start of an accepted job of n sections, once question 20 has a yes.
+fn begin(
+    job: &[u8],
+    n: usize,
+    heads: &mut [f64],
+    flows: &mut [f64],
+    highest: &mut [f64],
+    lowest: &mut [f64],
+    spare_heads: &mut [f64],
+    spare_flows: &mut [f64],
+) -> Answer
+    requires { ⌜ Ready (now job) n (six (now heads) (now flows) (now highest) (now lowest) (now «spare_heads») (now «spare_flows»)) ⌝ }
+    ensures { λ r. ⌜ left (six (now (heads .exit)) (now (flows .exit)) (now (highest .exit)) (now (lowest .exit)) (now («spare_heads» .exit)) (now («spare_flows» .exit))) r ≡ called (now (job .entry)) (six (now (heads .entry)) (now (flows .entry)) (now (highest .entry)) (now (lowest .entry)) (now («spare_heads» .entry)) (now («spare_flows» .entry))) (ran (started (jobOf (now (job .entry)))) completed) ⌝ }
+{
+    state::write_start(job, n, heads, flows, highest, lowest);
+    state::clear_spare(n, spare_heads, spare_flows);
+    Answer::Done(0)
+}
+
+// The start.
+pub fn start(
+    job: &[u8],
+    heads: &mut [f64],
+    flows: &mut [f64],
+    highest: &mut [f64],
+    lowest: &mut [f64],
+    spare_heads: &mut [f64],
+    spare_flows: &mut [f64],
+) -> Answer
+    ensures { λ r. ⌜ left (six (now (heads .exit)) (now (flows .exit)) (now (highest .exit)) (now (lowest .exit)) (now («spare_heads» .exit)) (now («spare_flows» .exit))) r ≡ startCall (now (job .entry)) (six (now (heads .entry)) (now (flows .entry)) (now (highest .entry)) (now (lowest .entry)) (now («spare_heads» .entry)) (now («spare_flows» .entry))) ⌝ }
+{
+    let read = job::read(job);
+    match read {
+        Read::Refused(q) => Answer::Refused(q),
+        Read::Accepted { sections, steps: _ } => {
+            if !enough(
+                sections,
+                heads.len(),
+                flows.len(),
+                highest.len(),
+                lowest.len(),
+                spare_heads.len(),
+                spare_flows.len(),
+            ) {
+                return Answer::Refused(20);
+            }
+            begin(
+                job,
+                sections,
+                heads,
+                flows,
+                highest,
+                lowest,
+                spare_heads,
+                spare_flows,
+            )
+        }
+    }
+}
+
+// The run-on of an accepted job of n sections, once questions 20 to 22 have a yes.
+fn carry_on(
+    job: &[u8],
+    n: usize,
+    done: u64,
+    count: u64,
+    heads: &mut [f64],
+    flows: &mut [f64],
+    highest: &mut [f64],
+    lowest: &mut [f64],
+    spare_heads: &mut [f64],
+    spare_flows: &mut [f64],
+) -> Answer
+    requires { ⌜ (Ready (now job) n (six (now heads) (now flows) (now highest) (now lowest) (now «spare_heads») (now «spare_flows»))) × (done + count ≤ 1000000) ⌝ }
+    ensures { λ r. ⌜ left (six (now (heads .exit)) (now (flows .exit)) (now (highest .exit)) (now (lowest .exit)) (now («spare_heads» .exit)) (now («spare_flows» .exit))) r ≡ called (now (job .entry)) (six (now (heads .entry)) (now (flows .entry)) (now (highest .entry)) (now (lowest .entry)) (now («spare_heads» .entry)) (now («spare_flows» .entry))) (steps (jobOf (now (job .entry))) count done (stateIn n (six (now (heads .entry)) (now (flows .entry)) (now (highest .entry)) (now (lowest .entry)) (now («spare_heads» .entry)) (now («spare_flows» .entry))))) ⌝ }
+{
+    let t = march::ends::constant_sums(job);
+    let ended = run::run(
+        job,
+        n,
+        done,
+        count,
+        &t,
+        heads,
+        flows,
+        highest,
+        lowest,
+        spare_heads,
+        spare_flows,
+    );
+    state::clear_spare(n, spare_heads, spare_flows);
+    answer_of(ended)
+}
+
+// The run-on: m is `done`, N is `count`.
+pub fn run_on(
+    job: &[u8],
+    done: u64,
+    count: u64,
+    heads: &mut [f64],
+    flows: &mut [f64],
+    highest: &mut [f64],
+    lowest: &mut [f64],
+    spare_heads: &mut [f64],
+    spare_flows: &mut [f64],
+) -> Answer
+    ensures { λ r. ⌜ left (six (now (heads .exit)) (now (flows .exit)) (now (highest .exit)) (now (lowest .exit)) (now («spare_heads» .exit)) (now («spare_flows» .exit))) r ≡ runOnCall (now (job .entry)) done count (six (now (heads .entry)) (now (flows .entry)) (now (highest .entry)) (now (lowest .entry)) (now («spare_heads» .entry)) (now («spare_flows» .entry))) ⌝ }
+{
+    let read = job::read(job);
+    match read {
+        Read::Refused(q) => Answer::Refused(q),
+        Read::Accepted { sections, steps: _ } => {
+            if !enough(
+                sections,
+                heads.len(),
+                flows.len(),
+                highest.len(),
+                lowest.len(),
+                spare_heads.len(),
+                spare_flows.len(),
+            ) {
+                return Answer::Refused(20);
+            }
+            if !within_limit(done, count) {
+                return Answer::Refused(21);
+            }
+            if !state::acceptable(job, sections, heads, flows, highest, lowest) {
+                return Answer::Refused(22);
+            }
+            carry_on(
+                job,
+                sections,
+                done,
+                count,
+                heads,
+                flows,
+                highest,
+                lowest,
+                spare_heads,
+                spare_flows,
+            )
+        }
+    }
+}

@@ -1,0 +1,88 @@
+// The rows before and after a run.
+ghost use mathlib.Core.Path.{_≡_};
+ghost use mathlib.Core.Bool.{true};
+ghost use mathlib.Core.List.{[]};
+ghost use Prim.Native.Nat.{ℕ, _*_, _≤_};
+ghost use lib.ListN.{length};
+ghost use Rattle.fields.specs.Real.{zero64};
+ghost use Rattle.loops.specs.Loops.{fill};
+ghost use Rattle.job.specs.Job.{sections, initialAt};
+ghost use Rattle.job.specs.Format.{jobOf, initialOf};
+ghost use Rattle.job.specs.Questions.{Accepted, initialFits};
+ghost use Rattle.recurrence.specs.Scan.{acceptable};
+ghost use Rattle.recurrence.specs.Calls.{stateIn};
+ghost use Rattle.surge.specs.Answers.{six};
+
+// The initial heads of table 4 into a row.
+fn write_heads(initial: &[u8], row: &mut [f64], n: usize)
+    requires { ⌜ (initialFits (now initial) ≡ true) × (n * 24 ≤ length (now initial)) × (n ≤ length (now row)) ⌝ }
+    ensures { λ _. ⌜ now (row .exit) ≡ fill (λ (s : ℕ). initialOf (now (initial .entry)) s .head) (now (row .entry)) 0 n ⌝ }
+{
+    let mut s = 0;
+    while s < n {
+        row[s] = job::values::head_at(initial, s);
+        s += 1;
+    }
+}
+
+// The initial flows of table 4 into a row.
+fn write_flows(initial: &[u8], row: &mut [f64], n: usize)
+    requires { ⌜ (initialFits (now initial) ≡ true) × (n * 24 ≤ length (now initial)) × (n ≤ length (now row)) ⌝ }
+    ensures { λ _. ⌜ now (row .exit) ≡ fill (λ (s : ℕ). initialOf (now (initial .entry)) s .flow) (now (row .entry)) 0 n ⌝ }
+{
+    let mut s = 0;
+    while s < n {
+        row[s] = job::values::flow_at(initial, s);
+        s += 1;
+    }
+}
+
+// The initial heads and flows, and both envelopes as the initial heads.
+pub fn write_start(
+    job: &[u8],
+    n: usize,
+    heads: &mut [f64],
+    flows: &mut [f64],
+    highest: &mut [f64],
+    lowest: &mut [f64],
+)
+    requires { ⌜ (Accepted (now job)) × (n ≡ sections (jobOf (now job))) ⌝ }
+    requires { ⌜ (n ≤ length (now heads)) × (n ≤ length (now flows)) × (n ≤ length (now highest)) × (n ≤ length (now lowest)) ⌝ }
+    ensures { λ _. ⌜ (now (heads .exit) ≡ fill (λ (s : ℕ). initialAt (jobOf (now (job .entry))) s .head) (now (heads .entry)) 0 n)
+        × (now (flows .exit) ≡ fill (λ (s : ℕ). initialAt (jobOf (now (job .entry))) s .flow) (now (flows .entry)) 0 n)
+        × (now (highest .exit) ≡ fill (λ (s : ℕ). initialAt (jobOf (now (job .entry))) s .head) (now (highest .entry)) 0 n)
+        × (now (lowest .exit) ≡ fill (λ (s : ℕ). initialAt (jobOf (now (job .entry))) s .head) (now (lowest .entry)) 0 n) ⌝ }
+{
+    let initial = job::pairs::table(job, 3);
+    write_heads(initial, heads, n);
+    write_flows(initial, flows, n);
+    write_heads(initial, highest, n);
+    write_heads(initial, lowest, n);
+}
+
+// Both spare rows +0 up to the section count.
+pub fn clear_spare(n: usize, spare_heads: &mut [f64], spare_flows: &mut [f64])
+    requires { ⌜ (n ≤ length (now «spare_heads»)) × (n ≤ length (now «spare_flows»)) ⌝ }
+    ensures { λ _. ⌜ (now («spare_heads» .exit) ≡ fill (λ (s : ℕ). zero64) (now («spare_heads» .entry)) 0 n)
+        × (now («spare_flows» .exit) ≡ fill (λ (s : ℕ). zero64) (now («spare_flows» .entry)) 0 n) ⌝ }
+{
+    rows::clear_row(spare_heads, n);
+    rows::clear_row(spare_flows, n);
+}
+
+// Question 22.
+pub fn acceptable(
+    job: &[u8],
+    n: usize,
+    heads: &[f64],
+    flows: &[f64],
+    highest: &[f64],
+    lowest: &[f64],
+) -> bool
+    requires { ⌜ (Accepted (now job)) × (n ≡ sections (jobOf (now job))) ⌝ }
+    requires { ⌜ (n ≤ length (now heads)) × (n ≤ length (now flows)) × (n ≤ length (now highest)) × (n ≤ length (now lowest)) ⌝ }
+    ensures { λ r. ⌜ r ≡ acceptable (jobOf (now (job .entry))) (stateIn n (six (now (heads .entry)) (now (flows .entry)) (now (highest .entry)) (now (lowest .entry)) [] [])) ⌝ }
+{
+    let initial = job::pairs::table(job, 3);
+    rows::acceptable(heads, flows, highest, lowest, initial, n)
+}
