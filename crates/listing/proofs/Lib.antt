@@ -1,2 +1,3 @@
 pub mod Stores
 pub mod Digits
+pub mod Figures

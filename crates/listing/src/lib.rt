@@ -1,106 +1,21 @@
-// The texts of a listing: the line of a section and the closing line. Inner calls store a text from a
-// place of the lent slice on and answer the place after it.
+// The texts of a listing: the line of a section, the closing line and the whole.
+mod text;
+
+use text::put_decimal;
+use text::put_newline;
+use text::put_number;
+use text::put_pattern;
+use text::put_text;
 ghost use mathlib.Core.Path.{_≡_};
-ghost use mathlib.Core.List.{_∷_, _++_, []};
+ghost use mathlib.Core.List.{_∷_, []};
 ghost use Prim.Native.Nat.{_+_, _*_, _≤_, _<_};
 ghost use lib.ListN.{length};
-ghost use lib.Ieee.{binary64, toBits};
-ghost use Rattle.listing.specs.Text.{ascii, digit, digits, places, decimal, pattern, following, printed};
-ghost use Rattle.listing.specs.Listing.{lineText, closingText, lineWritten, closingWritten, AtFront};
-ghost use Rattle.listing.specs.Written.{Written};
+ghost use Rattle.listing.specs.Text.{decimal, pattern, following, printed};
+ghost use Rattle.listing.specs.Listing.{lineText, closingText, linesText, rowLine, listingText, lineWritten, closingWritten, AtFront};
+ghost use Rattle.listing.specs.Written.{Written, Listable};
 
-// The byte of a digit below 16.
-fn digit_code(d: usize) -> u8
-    requires { ⌜ d < 16 ⌝ }
-    ensures { λ r. ⌜ r ≡ digit d ⌝ }
-{
-    let codes = b"0123456789abcdef";
-    codes[d]
-}
-
-// The last `count` digits of n in a base, the lowest stored first.
-fn put_digits(n: u64, base: u64, count: usize, out: &mut [u8], at: usize) -> usize
-    requires { ⌜ (0 < base) × (base ≤ 16) ⌝ }
-    requires { ⌜ at + count ≤ length (now out) ⌝ }
-    ensures { λ r. ⌜ Written (now (out .entry)) at (digits base count n) (now (out .exit)) r ⌝ }
-    ensures { λ r. ⌜ r ≡ at + count ⌝ }
-{
-    let mut i = count;
-    let mut left = n;
-    while i > 0 {
-        i -= 1;
-        out[at + i] = digit_code((left % base) as usize);
-        left /= base;
-    }
-    at + count
-}
-
-// A text of fixed bytes.
-fn put_text(text: &[u8], out: &mut [u8], at: usize) -> usize
-    requires { ⌜ at + length (now text) ≤ length (now out) ⌝ }
-    ensures { λ r. ⌜ Written (now (out .entry)) at (now (text .entry)) (now (out .exit)) r ⌝ }
-{
-    let mut i = 0;
-    while i < text.len() {
-        out[at + i] = text[i];
-        i += 1;
-    }
-    at + i
-}
-
-// How many decimal digits n has.
-fn places_of(n: u64) -> usize
-    ensures { λ r. ⌜ r ≡ places n ⌝ }
-{
-    let mut count: usize = 1;
-    let mut left = n;
-    while left >= 10 {
-        left /= 10;
-        count += 1;
-    }
-    count
-}
-
-// A number in decimal.
-fn put_decimal(n: usize, out: &mut [u8], at: usize) -> usize
-    requires { ⌜ at + places n ≤ length (now out) ⌝ }
-    ensures { λ r. ⌜ Written (now (out .entry)) at (decimal n) (now (out .exit)) r ⌝ }
-    ensures { λ r. ⌜ r ≡ at + places n ⌝ }
-{
-    let number = n as u64;
-    let count = places_of(number);
-    put_digits(number, 10, count, out, at)
-}
-
-// The bit pattern of x. The test comes first, since no operation reads a NaN's own pattern.
-fn bits_of(x: f64) -> u64
-    ensures { λ r. ⌜ r ≡ toBits binary64 x ⌝ }
-{
-    if x != x {
-        return 0x7ff8_0000_0000_0000;
-    }
-    f64::to_bits(x)
-}
-
-// A space and a number in decimal.
-fn put_number(n: usize, out: &mut [u8], at: usize) -> usize
-    requires { ⌜ at + 1 + places n ≤ length (now out) ⌝ }
-    ensures { λ r. ⌜ Written (now (out .entry)) at (ascii " " ++ decimal n) (now (out .exit)) r ⌝ }
-    ensures { λ r. ⌜ r ≡ at + 1 + places n ⌝ }
-{
-    out[at] = b' ';
-    put_decimal(n, out, at + 1)
-}
-
-// A space and the pattern of x.
-fn put_pattern(x: f64, out: &mut [u8], at: usize) -> usize
-    requires { ⌜ at + 17 ≤ length (now out) ⌝ }
-    ensures { λ r. ⌜ Written (now (out .entry)) at (ascii " " ++ pattern x) (now (out .exit)) r ⌝ }
-    ensures { λ r. ⌜ r ≡ at + 17 ⌝ }
-{
-    out[at] = b' ';
-    put_digits(bits_of(x), 16, 16, out, at + 1)
-}
+// The bytes that question 24 asks for: a line has at most 3 digits, four fields of 17 and the newline.
+const LINE: usize = 72;
 
 // What a section's line has after the number.
 fn put_values(head: f64, flow: f64, highest: f64, lowest: f64, out: &mut [u8], at: usize) -> usize
@@ -111,9 +26,8 @@ fn put_values(head: f64, flow: f64, highest: f64, lowest: f64, out: &mut [u8], a
     let a = put_pattern(head, out, at);
     let b = put_pattern(flow, out, a);
     let c = put_pattern(highest, out, b);
-    let end = put_pattern(lowest, out, c);
-    out[end] = b'\n';
-    end + 1
+    let d = put_pattern(lowest, out, c);
+    put_newline(out, d)
 }
 
 // A section's line.
@@ -150,7 +64,7 @@ pub fn write_line(
     if section >= 512 {
         return 0;
     }
-    if out.len() < 72 {
+    if out.len() < LINE {
         return 0;
     }
     put_line(section, head, flow, highest, lowest, out, 0)
@@ -180,9 +94,8 @@ fn put_word_number(word: &[u8], n: usize, out: &mut [u8], at: usize) -> usize
     ensures { λ r. ⌜ r ≤ at + 72 ⌝ }
 {
     let a = put_text(word, out, at);
-    let end = put_number(n, out, a);
-    out[end] = b'\n';
-    end + 1
+    let b = put_number(n, out, a);
+    put_newline(out, b)
 }
 
 // A word, two numbers and the newline.
@@ -193,9 +106,8 @@ fn put_word_numbers(word: &[u8], m: usize, n: usize, out: &mut [u8], at: usize) 
 {
     let a = put_text(word, out, at);
     let b = put_number(m, out, a);
-    let end = put_number(n, out, b);
-    out[end] = b'\n';
-    end + 1
+    let c = put_number(n, out, b);
+    put_newline(out, c)
 }
 
 // The closing line of an answer: its number, the steps done and the section.
@@ -221,8 +133,50 @@ fn put_closing(number: usize, steps: usize, section: usize, out: &mut [u8], at: 
 pub fn write_closing(number: usize, steps: usize, section: usize, out: &mut [u8]) -> usize
     ensures { λ r. ⌜ AtFront (closingWritten number steps section (length (now (out .entry)))) (now (out .entry)) r (now (out .exit)) ⌝ }
 {
-    if out.len() < 72 {
+    if out.len() < LINE {
         return 0;
     }
     put_closing(number, steps, section, out, 0)
+}
+
+// The lines of the sections 0 to count - 1, by the four rows.
+fn put_lines(
+    count: usize,
+    heads: &[f64],
+    flows: &[f64],
+    highest: &[f64],
+    lowest: &[f64],
+    out: &mut [u8],
+) -> usize
+    requires { ⌜ Listable count (now heads) (now flows) (now highest) (now lowest) (now out) ⌝ }
+    ensures { λ r. ⌜ Written (now (out .entry)) 0 (linesText (rowLine (now (heads .entry)) (now (flows .entry)) (now (highest .entry)) (now (lowest .entry))) count) (now (out .exit)) r ⌝ }
+    ensures { λ r. ⌜ r ≤ count * 72 ⌝ }
+{
+    let mut at = 0;
+    let mut s = 0;
+    while s < count {
+        at = put_line(s, heads[s], flows[s], highest[s], lowest[s], out, at);
+        s += 1;
+    }
+    at
+}
+
+// Writes a whole listing at the front of `out` and answers how many bytes it takes. An inner call:
+// the program lends rows and room enough.
+pub fn write_listing(
+    count: usize,
+    heads: &[f64],
+    flows: &[f64],
+    highest: &[f64],
+    lowest: &[f64],
+    number: usize,
+    steps: usize,
+    section: usize,
+    out: &mut [u8],
+) -> usize
+    requires { ⌜ Listable count (now heads) (now flows) (now highest) (now lowest) (now out) ⌝ }
+    ensures { λ r. ⌜ AtFront (listingText (rowLine (now (heads .entry)) (now (flows .entry)) (now (highest .entry)) (now (lowest .entry))) count number steps section) (now (out .entry)) r (now (out .exit)) ⌝ }
+{
+    let at = put_lines(count, heads, flows, highest, lowest, out);
+    put_closing(number, steps, section, out, at)
 }

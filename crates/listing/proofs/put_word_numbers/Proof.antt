@@ -4,7 +4,7 @@ use native.Mathlib.Omega.{arith}
 use borrow.Author.Needs.{needs}
 use Rattle.listing.specs.Text.{places}
 use Rattle.listing.proofs.Digits.{places-word}
-use Rattle.listing.proofs.Stores.{one-byte, joined, kept}
+use Rattle.listing.proofs.Stores.{joined}
 use Rattle.listing.proofs.put_word_numbers.Statement.{statement}
 use Rattle.listing.proofs.put_word_numbers.Tie as tie
 
@@ -18,22 +18,19 @@ put-number-requires c κs = omega (arith, few (c .before .before .before .before
 put-number-requires-2 : tie.Need-put-number-requires-2
 put-number-requires-2 c κs = omega (arith, few (c .before .before .before .before .before .before .before .before .before .before .before))
 
-slice-write-out : tie.Need-slice-write-out
-slice-write-out c = omega (arith, few (c .before .before .before .before .before .before .before .before .before .before .before .before .before .before))
-
-add-result : tie.Need-add-result
-add-result c = omega (arith, few (c .before .before .before .before .before .before .before .before .before .before .before .before .before .before))
+put-newline-requires : tie.Need-put-newline-requires
+put-newline-requires c κs = omega (arith, few (c .before .before .before .before .before .before .before .before .before .before .before .before .before .before .before))
 
 returns : tie.Need-returns
 returns c =
-    let b = c .before .before in
-    let a = b .before .before .before .before in (
-      joined (a .before .before .before .before .put-text .ensures) (joined (a .put-number .ensures .0) (joined (b .put-number2 .ensures .0) one-byte)),
-      omega (arith, few (c .before .before .before .before .before .before .before .before .before .before .before .before .before .before)),
+    let d = c .before .before in
+    let b = d .before .before .before .before in
+    let a = b .before .before .before .before in
+    let t = a .before .before .before .before in
+    let s = t .before .before .before .before in (
+      joined (t .put-text .ensures) (joined (a .put-number .ensures .0) (joined (b .put-number2 .ensures .0) (d .put-newline .ensures .0))),
+      omega (arith, few s, s .pre, t .put-text .ensures .after),
     )
-
-same-length : tie.Need-same-length
-same-length c = kept (returns c .0)
 
 pub put-word-numbers-spec : {M : Type 1} → statement M
 put-word-numbers-spec =
@@ -42,7 +39,6 @@ put-word-numbers-spec =
     (λ c κs. search needs)
     put-number-requires
     put-number-requires-2
-    slice-write-out
-    add-result
-    same-length
+    put-newline-requires
+    (λ c. search needs)
     returns)

@@ -1,10 +1,10 @@
--- `listing::put_pattern` meets its contract: a space, and behind it the 16 digits of the pattern. Assumes nothing.
+-- `listing::text::put_pattern` meets its contract: a space, and behind it the 16 digits of the pattern. Assumes nothing.
 use native.Mathlib.Omega.{arith}
 use borrow.Author.Needs.{needs}
 use lib.ListN.{length-set}
 use Rattle.listing.proofs.Stores.{one-byte, joined, kept}
-use Rattle.listing.proofs.put_pattern.Statement.{statement}
-use Rattle.listing.proofs.put_pattern.Tie as tie
+use Rattle.listing.proofs.text.put_pattern.Statement.{statement}
+use Rattle.listing.proofs.text.put_pattern.Tie as tie
 
 put-digits-requires : tie.Need-put-digits-requires
 put-digits-requires c κs = simp length-set (omega arith)

@@ -1,7 +1,7 @@
--- `listing::put_decimal` meets its contract: as many digits as the number has. Assumes nothing.
+-- `listing::text::put_decimal` meets its contract: as many digits as the number has. Assumes nothing.
 use borrow.Author.Needs.{needs}
-use Rattle.listing.proofs.put_decimal.Statement.{statement}
-use Rattle.listing.proofs.put_decimal.Tie as tie
+use Rattle.listing.proofs.text.put_decimal.Statement.{statement}
+use Rattle.listing.proofs.text.put_decimal.Tie as tie
 
 returns : tie.Need-returns
 returns c = rw (c .before .before .before .before .places-of .ensures) at (c .before .before .put-digits .ensures)

@@ -1,10 +1,10 @@
--- `listing::put_number` meets its contract: a space, and behind it the number. Assumes nothing.
+-- `listing::text::put_number` meets its contract: a space, and behind it the number. Assumes nothing.
 use native.Mathlib.Omega.{arith}
 use borrow.Author.Needs.{needs}
 use lib.ListN.{length-set}
 use Rattle.listing.proofs.Stores.{one-byte, joined, kept}
-use Rattle.listing.proofs.put_number.Statement.{statement}
-use Rattle.listing.proofs.put_number.Tie as tie
+use Rattle.listing.proofs.text.put_number.Statement.{statement}
+use Rattle.listing.proofs.text.put_number.Tie as tie
 
 put-decimal-requires : tie.Need-put-decimal-requires
 put-decimal-requires c κs = simp length-set (omega arith)

@@ -1,12 +1,12 @@
--- `listing::places_of` meets its contract: each turn takes one digit off and counts it. Assumes nothing.
+-- `listing::text::places_of` meets its contract: each turn takes one digit off and counts it. Assumes nothing.
 use mathlib.Core.Path.{_≡_}
 use Prim.Native.Nat.{_+_, _≤_}
 use native.Mathlib.Omega.{arith}
 use borrow.Author.Needs.{needs}
 use Rattle.listing.specs.Text.{places}
 use Rattle.listing.proofs.Digits.{places-few, places-more}
-use Rattle.listing.proofs.places_of.Statement.{statement}
-use Rattle.listing.proofs.places_of.Tie as tie
+use Rattle.listing.proofs.text.places_of.Statement.{statement}
+use Rattle.listing.proofs.text.places_of.Tie as tie
 
 abbrev Inv-loop : tie.InvT-loop
 Inv-loop n count₀ left₀ count left = (count + places left ≡ places n + 1) × (count + left ≤ n + 1)

@@ -1,4 +1,4 @@
--- `listing::put_text` meets its contract: what is stored with what is left to store is always the text. Assumes nothing.
+-- `listing::text::put_text` meets its contract: what is stored with what is left to store is always the text. Assumes nothing.
 use mathlib.Core.Path.{_≡_, refl, sym, ap, _∙_}
 use Prim.Native.Nat.{ℕ, _+_, _-_, _≤_}
 use native.Mathlib.Nat.{add-zero}
@@ -8,8 +8,8 @@ use lib.ListN.{length, drop, length-set}
 use lib.Seq.{sets}
 use denote.Ref.{now}
 use Rattle.listing.proofs.Stores.{next-byte, all-bytes}
-use Rattle.listing.proofs.put_text.Statement.{statement}
-use Rattle.listing.proofs.put_text.Tie as tie
+use Rattle.listing.proofs.text.put_text.Statement.{statement}
+use Rattle.listing.proofs.text.put_text.Tie as tie
 
 abbrev Inv-loop : tie.InvT-loop
 Inv-loop text out₀ at i₀ out i = (i ≤ length text) × (length out ≡ length out₀) × (sets out (at + i) (drop i text) ≡ sets out₀ at text)

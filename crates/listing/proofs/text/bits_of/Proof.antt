@@ -1,12 +1,12 @@
--- `listing::bits_of` meets its contract: only a NaN differs from itself. Assumes nothing.
+-- `listing::text::bits_of` meets its contract: only a NaN differs from itself. Assumes nothing.
 use mathlib.Core.Path.{_≡_, sym, _∙_, subst}
 use mathlib.Core.Bool.{true≢false, false, not}
 use borrow.Author.Needs.{needs}
 use lib.Dec.{T}
 use lib.Ieee.{Float, nan, inf, fin, ne, isNan, toBits}
 use lib.Ieee.Compare.{differs-from-itself, nan-differs}
-use Rattle.listing.proofs.bits_of.Statement.{statement}
-use Rattle.listing.proofs.bits_of.Tie as tie
+use Rattle.listing.proofs.text.bits_of.Statement.{statement}
+use Rattle.listing.proofs.text.bits_of.Tie as tie
 
 no-nan : (x : Float) → ne x x ≡ false → T (not (isNan x))
 unfolding isNan

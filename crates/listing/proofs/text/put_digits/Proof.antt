@@ -1,4 +1,4 @@
--- `listing::put_digits` meets its contract: what is stored with what is left to store is always the digits. Assumes nothing.
+-- `listing::text::put_digits` meets its contract: what is stored with what is left to store is always the digits. Assumes nothing.
 use mathlib.Core.Path.{_≡_, refl, sym, ap, _∙_}
 use mathlib.Core.List.{List}
 use Prim.Native.Nat.{ℕ, _+_, _≤_}
@@ -10,8 +10,8 @@ use lib.Seq.{sets}
 use denote.Ref.{now}
 use Rattle.listing.specs.Text.{digits}
 use Rattle.listing.proofs.Digits.{length-digits, lowest-first}
-use Rattle.listing.proofs.put_digits.Statement.{statement}
-use Rattle.listing.proofs.put_digits.Tie as tie
+use Rattle.listing.proofs.text.put_digits.Statement.{statement}
+use Rattle.listing.proofs.text.put_digits.Tie as tie
 
 abbrev Inv-loop : tie.InvT-loop
 Inv-loop n base count out₀ at i₀ left₀ out i left = (i ≤ count) × (length out ≡ length out₀) × (sets out at (digits base i left) ≡ sets out₀ at (digits base count n))
