@@ -81,11 +81,11 @@ fn bits_of(x: f64) -> u64
     f64::to_bits(x)
 }
 
-// A space and a number in decimal.
+// A space and a number in decimal, of at most 20 digits.
 pub fn put_number(n: usize, out: &mut [u8], at: usize) -> usize
-    requires { ⌜ at + 1 + places n ≤ length (now out) ⌝ }
+    requires { ⌜ at + 21 ≤ length (now out) ⌝ }
     ensures { λ r. ⌜ Written (now (out .entry)) at (ascii " " ++ decimal n) (now (out .exit)) r ⌝ }
-    ensures { λ r. ⌜ r ≡ at + 1 + places n ⌝ }
+    ensures { λ r. ⌜ r ≤ at + 21 ⌝ }
 {
     out[at] = b' ';
     put_decimal(n, out, at + 1)

@@ -9,7 +9,7 @@ use lib.ListN.{length}
 use denote.Ref.{now}
 use Rattle.listing.specs.Listing.{linesText, rowLine}
 use Rattle.listing.specs.Written.{Written}
-use Rattle.listing.proofs.Stores.{joined}
+use Rattle.listing.proofs.Stores.{joined, kept}
 use Rattle.listing.proofs.put_lines.Statement.{statement}
 use Rattle.listing.proofs.put_lines.Tie as tie
 
@@ -37,9 +37,9 @@ loop-again : tie.Need-loop-again Inv-loop μ-loop
 loop-again c =
     let t = c .before .before .before .before .before .before .before .before .before in
     let a = t .before .before .before .before .before .before .args in (
-      search needs,
-      search needs,
-      search needs,
+      omega arith,
+      omega arith,
+      kept (c .before .before .put-line .ensures .0) ∙ t .loop .inv .2,
       more (rowLine (now (a .heads)) (now (a .flows)) (now (a .highest)) (now (a .lowest))) (t .loop .s) (t .loop .inv .3) (c .before .before .put-line .ensures .0),
     )
 
@@ -56,17 +56,17 @@ put-lines-spec =
     Inv-loop
     μ-loop
     loop-holds
-    (λ c. search needs)
-    (λ c. search needs)
-    (λ c. search needs)
-    (λ c. search needs)
-    (λ c. search needs)
-    (λ c. search needs)
-    (λ c. search needs)
-    (λ c. search needs)
-    (λ c κs. search needs)
-    (λ c. search needs)
-    (λ c. search needs)
+    (λ c. omega arith)
+    (λ c. omega arith)
+    (λ c. omega arith)
+    (λ c. omega arith)
+    (λ c. omega arith)
+    (λ c. omega arith)
+    (λ c. omega arith)
+    (λ c. omega arith)
+    (λ c κs. omega arith)
+    (λ c. omega arith)
+    (λ c. omega arith)
     loop-again
-    (λ c. search needs)
+    (λ c. omega arith)
     returns)

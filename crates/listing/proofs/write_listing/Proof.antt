@@ -9,4 +9,4 @@ returns : tie.Need-returns
 returns c = at-front (joined (c .before .before .before .before .before .before .put-lines .ensures .0) (c .before .before .put-closing .ensures .0)) (omega arith)
 
 pub write-listing-spec : {M : Type 1} → statement M
-write-listing-spec = tie.close (tie.spec (λ c κs. search needs) (λ c κs. search needs) (λ c. search needs) returns)
+write-listing-spec = tie.close (tie.spec (λ c κs. c .before .before .before .before .before .before .pre) (λ c κs. omega arith) (λ c. search needs) returns)
