@@ -1,0 +1,11 @@
+-- `listing::text::digit_code` meets its contract: the code's table is the definition's. Assumes nothing.
+use mathlib.Core.Path.{refl}
+use borrow.Author.Needs.{needs}
+use Rattle.listing.proofs.text.digit_code.Statement.{statement}
+use Rattle.listing.proofs.text.digit_code.Tie as tie
+
+returns : tie.Need-returns
+returns c = refl
+
+pub digit-code-spec : {M : Type 1} → statement M
+digit-code-spec = tie.close (tie.spec (λ c. search needs) returns)
