@@ -86,23 +86,28 @@ impl Draft {
 
     /// The bytes of the job.
     pub fn bytes(&self) -> Vec<u8> {
-        let tables = self.tables();
-        let mut bytes = Vec::with_capacity(self.byte_count());
+        Draft::bytes_of(self.steps, &self.tables())
+    }
+
+    /// The bytes of a job of these tables, each next one where the last ended.
+    pub fn bytes_of(steps: u32, tables: &[Vec<u8>; 5]) -> Vec<u8> {
+        let mut bytes = Vec::new();
         bytes.extend(5_u16.to_le_bytes());
-        bytes.extend(self.steps.to_le_bytes());
+        bytes.extend(steps.to_le_bytes());
         let mut offset = 46;
-        for table in &tables {
+        for table in tables {
             bytes.extend((offset as u32).to_le_bytes());
             bytes.extend((table.len() as u32).to_le_bytes());
             offset += table.len();
         }
-        for table in &tables {
+        for table in tables {
             bytes.extend(table);
         }
         bytes
     }
 
-    fn tables(&self) -> [Vec<u8>; 5] {
+    /// The five tables.
+    pub fn tables(&self) -> [Vec<u8>; 5] {
         let mut tables: [Vec<u8>; 5] = Default::default();
         for pipe in &self.pipes {
             tables[0].extend([pipe.start, pipe.finish]);

@@ -41,9 +41,9 @@ pub fn draft() -> Draft {
 
 /// (1 - t/tF)^1.5 at each step up to tF: 42 entries, the last 0.
 fn openings() -> Vec<f64> {
-    let opening = |step: u32| (1.0 - f64::from(step) / 42.0).powf(1.5);
-    debug_assert!((42.0 * PIPE.step_time - CLOSING_TIME).abs() < 1e-12);
-    (1..=42).map(opening).collect()
+    let steps = (CLOSING_TIME / PIPE.step_time).round() as u32;
+    let part = |step: u32| 1.0 - f64::from(step) / f64::from(steps);
+    (1..=steps).map(|step| part(step) * part(step).sqrt()).collect()
 }
 
 /// A head of table 4 beside the one worked out here.

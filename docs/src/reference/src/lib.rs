@@ -12,6 +12,7 @@
 pub mod decimals;
 pub mod draft;
 pub mod fields;
+pub mod generate;
 pub mod job;
 pub mod lauria;
 pub mod listing;
