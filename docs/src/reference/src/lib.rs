@@ -9,6 +9,7 @@
 //! - [`text`], [`decimals`], [`refusal`]: jobs and listings that people can read.
 //! - [`samples`], [`lauria`]: sample jobs, one of them out of a thesis with its printed heads.
 
+pub mod baseline;
 pub mod decimals;
 pub mod draft;
 pub mod fields;

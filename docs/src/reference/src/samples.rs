@@ -174,3 +174,39 @@ fn friction_too_large() -> Draft {
     }
     draft
 }
+
+/// One pipe of 511 reaches from a reservoir to a valve that stays partly open, to be timed.
+pub fn one_long_pipe() -> Draft {
+    let openings: Vec<f64> = (1..=200).map(|step| 1.0 - f64::from(step) / 400.0).collect();
+    let mut draft = Draft { steps: 10_000, ..Draft::default() };
+    let upper = draft.node(DraftNode::reservoir(&[150.0]));
+    let lower = draft.node(DraftNode::valve(0.04, 0.0, &openings));
+    draft.pipe(upper, lower, 511, 0.0016, 0.0);
+    // Each reach has its own friction and each section its own floor.
+    draft.friction.iter_mut().zip(0..).for_each(|(r, at)| *r = 9e-5 + 1e-8 * f64::from(at));
+    for at in 0..512 {
+        draft.section(150.0 - f64::from(at) * 0.0128, 0.477, -10.0 - 0.001 * f64::from(at));
+    }
+    draft
+}
+
+/// 32 pipes of 15 reaches: eight rings of four pipes, each ring with a reservoir, a junction, a
+/// valve and a pump, to be timed.
+pub fn many_pipes() -> Draft {
+    let mut draft = Draft { steps: 10_000, ..Draft::default() };
+    for _ in 0..8 {
+        let reservoir = draft.node(DraftNode::reservoir(&[80.0]));
+        let junction = draft.node(DraftNode::junction(&[0.001, 0.002]));
+        let valve = draft.node(DraftNode::valve(0.01, 10.0, &[0.9, 0.8, 0.7]));
+        let pump = draft.node(DraftNode::pump(95.0, 2000.0, 2.0, &[0.8, 0.9, 1.0]));
+        for (start, finish) in
+            [(reservoir, junction), (junction, valve), (pump, valve), (reservoir, pump)]
+        {
+            draft.pipe(start, finish, 15, 0.001, 0.01);
+        }
+    }
+    for _ in 0..draft.section_count() {
+        draft.section(80.0, 0.0, -10.0);
+    }
+    draft
+}
