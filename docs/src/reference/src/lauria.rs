@@ -96,3 +96,23 @@ fn heads_by_step() -> Vec<Vec<f64>> {
     }
     heads
 }
+
+#[cfg(test)]
+mod tests {
+    use super::*;
+
+    /// The counts of samples/lauria.md: 4 heads differ by a hundredth, 49 are misread.
+    #[test]
+    fn heads_agree_as_reported() {
+        let differences: Vec<i64> = compare().iter().map(|at| at.difference().abs()).collect();
+        let count = |wanted: fn(i64) -> bool| differences.iter().filter(|&&d| wanted(d)).count();
+        assert_eq!(differences.len(), 869);
+        assert_eq!([count(|d| d == 0), count(|d| d == 1), count(|d| d > 1)], [816, 4, 49]);
+    }
+
+    #[test]
+    fn the_closure_fits_a_schedule() {
+        let openings = openings();
+        assert_eq!((openings.len(), openings[41]), (42, 0.0));
+    }
+}

@@ -7,7 +7,7 @@ fn main() {
     println!("step time section printed here difference");
     for at in compared.iter().filter(|at| at.difference() != 0) {
         println!(
-            "{} {:.2} {} {:.2} {:.3} {:+.2}",
+            "{} {:.2} {} {:.2} {:.4} {:+.2}",
             at.step,
             at.step as f64 * 0.05,
             at.section,
