@@ -1,0 +1,137 @@
+//! The nodes of one step, and the sections at the ends of the pipes.
+
+use super::plan::{NodePlan, PipePlan, Plan};
+use super::sweep::{EndK, Faults, State};
+use super::two::Two;
+use crate::job::Kind;
+use crate::wave::{finish_flow, magnitude, start_flow};
+
+/// K at the ends of each pipe, and B of each node.
+pub struct Ends {
+    k: [EndK; 32],
+    b: [f64; 32],
+}
+
+impl Ends {
+    pub fn none() -> Ends {
+        Ends { k: [EndK { start: 0.0, finish: 0.0 }; 32], b: [0.0; 32] }
+    }
+
+    /// Before a step: B of each node +0.
+    pub fn clear(&mut self, nodes: usize) {
+        self.b[..nodes].fill(0.0);
+    }
+
+    /// Notes K at both ends of a pipe; the pipes come in rising number.
+    #[inline(always)]
+    pub fn set(&mut self, number: usize, pipe: &PipePlan, k: EndK) {
+        self.k[number] = k;
+        self.b[pipe.start] += k.start;
+        self.b[pipe.finish] += k.finish;
+    }
+
+    /// Writes head and flow of every end section.
+    #[inline(always)]
+    pub fn write(&self, plan: &Plan<'_>, step: u64, new: &mut State<'_>, faults: &mut Faults) {
+        let mut heads = [0.0; 32];
+        for ((node, &b), head) in plan.nodes().iter().zip(&self.b).zip(&mut heads) {
+            *head = node_head(node, plan.value_at(node, step), b);
+        }
+        for (pipe, k) in plan.pipes().iter().zip(&self.k) {
+            let (first, last) = (pipe.first, pipe.first + pipe.reaches);
+            let (upper, lower) = (heads[pipe.start], heads[pipe.finish]);
+            let upper_flow = start_flow(pipe.s, k.start, upper);
+            let lower_flow = finish_flow(pipe.s, k.finish, lower);
+            (new.heads[first], new.flows[first]) = (upper, upper_flow);
+            (new.heads[last], new.flows[last]) = (lower, lower_flow);
+            let floors = Two([plan.floors[first], plan.floors[last]]);
+            faults.look_at(Two([upper, lower]), Two([upper_flow, lower_flow]), floors);
+        }
+    }
+}
+
+/// H of a node: plus infinity where B, T or the argument of a root that is taken is not finite.
+#[inline(always)]
+fn node_head(node: &NodePlan, v: f64, b: f64) -> f64 {
+    let t = node.t;
+    if !(b.is_finite() & t.is_finite()) {
+        return f64::INFINITY;
+    }
+    match node.kind {
+        Kind::Junction => (b - v) / t,
+        Kind::Reservoir => v,
+        Kind::Valve { a, b: tank } => {
+            let va = v * a;
+            let w = (va * va) / t;
+            if w == 0.0 {
+                return (b - 0.0) / t;
+            }
+            let y = b - t * tank;
+            let z = magnitude(y);
+            let x = w * w + 4.0 * (w * z);
+            if !x.is_finite() {
+                return f64::INFINITY;
+            }
+            let q = ((z + z) * w) / (w + root(x));
+            (b - if y < 0.0 { -q } else { q }) / t
+        }
+        Kind::Pump { a, b: curve, c } => {
+            let y = t * (c + (v * v) * a) - b;
+            if y > 0.0 {
+                let x = 1.0 + 4.0 * ((curve * t) * y);
+                if !x.is_finite() {
+                    return f64::INFINITY;
+                }
+                (b + (y + y) / (1.0 + root(x))) / t
+            } else {
+                (b + 0.0) / t
+            }
+        }
+    }
+}
+
+/// The root of a finite number not below zero: the machine's, which is the nearest f64, or the f64
+/// below it where its exact square is greater than the argument.
+#[inline(always)]
+fn root(x: f64) -> f64 {
+    if x == 0.0 {
+        return 0.0;
+    }
+    let nearest = x.sqrt();
+    let (root, root_exponent) = parts(nearest);
+    let (argument, exponent) = parts(x);
+    let square = u128::from(root) * u128::from(root);
+    let above = square > u128::from(argument) << (exponent - 2 * root_exponent);
+    f64::from_bits(nearest.to_bits() - u64::from(above))
+}
+
+/// x as a whole number times a power of two.
+#[inline(always)]
+fn parts(x: f64) -> (u64, i32) {
+    let (field, fraction) = ((x.to_bits() >> 52) as i32, x.to_bits() & ((1 << 52) - 1));
+    if field > 0 {
+        (fraction | 1 << 52, field - 1075)
+    } else {
+        (fraction, -1074)
+    }
+}
+
+#[cfg(test)]
+mod tests {
+    use super::*;
+    use crate::generate::Random;
+
+    #[test]
+    fn the_root_is_the_plain_one() {
+        let mut random = Random::new(6);
+        let edges = [0.0, -0.0, 2.0, 144.0, f64::MAX, f64::MIN_POSITIVE, f64::from_bits(1)];
+        let squares = (1..2000).map(|t| f64::from(t) * f64::from(t));
+        let any = (0..200_000).map(|_| f64::from_bits(random.bits() >> 1));
+        let tiny = (0..52).map(|place| f64::from_bits((1 << place) | 1));
+        let all = edges.into_iter().chain(squares).chain(tiny).chain(any);
+        for x in all.filter(|x| x.is_finite()) {
+            let plain = crate::root::root(x).unwrap();
+            assert_eq!(root(x).to_bits(), plain.to_bits(), "{x:e}");
+        }
+    }
+}

@@ -1,0 +1,178 @@
+//! One pipe for one step: its inner sections, and K at both ends.
+
+use super::plan::{PipePlan, Plan};
+use super::two::Two;
+use crate::wave::{from_below, inner, start_k, Point};
+
+/// Heads and flows, as many as there are sections.
+pub struct State<'a> {
+    pub heads: &'a mut [f64],
+    pub flows: &'a mut [f64],
+}
+
+pub struct Envelopes<'a> {
+    pub highest: &'a mut [f64],
+    pub lowest: &'a mut [f64],
+}
+
+impl Envelopes<'_> {
+    /// Raises the maxima and lowers the minima from section `first` on.
+    pub fn take(&mut self, heads: &[f64], first: usize) {
+        let rows = self.highest[first..].iter_mut().zip(&mut self.lowest[first..]);
+        for (&head, (highest, lowest)) in heads[first..].iter().zip(rows) {
+            *highest = if head > *highest { head } else { *highest };
+            *lowest = if head < *lowest { head } else { *lowest };
+        }
+    }
+}
+
+/// What a step's new heads and flows show of faults, gathered without a branch.
+pub struct Faults {
+    /// The sum of all heads and flows: not finite where one of them is not.
+    sum: Two,
+    /// How many heads are below their floors, or no numbers.
+    below: [u64; 2],
+}
+
+impl Faults {
+    pub fn none() -> Faults {
+        Faults { sum: Two::both(0.0), below: [0, 0] }
+    }
+
+    #[inline(always)]
+    pub fn look_at(&mut self, head: Two, flow: Two, floor: Two) {
+        self.sum = self.sum + (head + flow);
+        self.below[0] += u64::from(!(floor.0[0] <= head.0[0]));
+        self.below[1] += u64::from(!(floor.0[1] <= head.0[1]));
+    }
+
+    /// No faulty section is missed; a sum past every f64 is a false alarm.
+    pub fn any(&self) -> bool {
+        !(self.sum.0[0] + self.sum.0[1]).is_finite() | (self.below[0] + self.below[1] > 0)
+    }
+}
+
+/// K at the start end and at the finish end.
+#[derive(Clone, Copy)]
+pub struct EndK {
+    pub start: f64,
+    pub finish: f64,
+}
+
+/// A pipe's part of each row in pairs: sections 0 and 1, 2 and 3, ... of the old state, and 1 and
+/// 2, 3 and 4, ... of the new one, which has a pair less.
+struct Pairs<'a> {
+    heads: &'a [[f64; 2]],
+    flows: &'a [[f64; 2]],
+    /// R of the reaches below the old sections, and above those of every pair but the first.
+    friction_below: &'a [[f64; 2]],
+    friction_above: &'a [[f64; 2]],
+    highest: &'a mut [[f64; 2]],
+    lowest: &'a mut [[f64; 2]],
+    floors: &'a [[f64; 2]],
+    new_heads: &'a mut [[f64; 2]],
+    new_flows: &'a mut [[f64; 2]],
+}
+
+/// `count` pairs of a row from `first` on.
+#[inline(always)]
+fn pairs(row: &[f64], first: usize, count: usize) -> &[[f64; 2]] {
+    row[first..first + 2 * count].as_chunks().0
+}
+
+#[inline(always)]
+fn pairs_mut(row: &mut [f64], first: usize, count: usize) -> &mut [[f64; 2]] {
+    row[first..first + 2 * count].as_chunks_mut().0
+}
+
+/// Sweeps a pipe; `TAKE` says whether the old heads go into the envelopes.
+#[inline(always)]
+pub fn pipe<const TAKE: bool>(
+    plan: &Plan<'_>,
+    pipe: &PipePlan,
+    old: &State<'_>,
+    new: &mut State<'_>,
+    envelopes: &mut Envelopes<'_>,
+    faults: &mut Faults,
+) -> EndK {
+    let (first, count) = (pipe.first, pipe.reaches.div_ceil(2));
+    let rows = Pairs {
+        heads: pairs(old.heads, first, count),
+        flows: pairs(old.flows, first, count),
+        friction_below: pairs(&plan.friction, first, count),
+        friction_above: pairs(&plan.friction, first + 1, count - 1),
+        highest: pairs_mut(envelopes.highest, first, count),
+        lowest: pairs_mut(envelopes.lowest, first, count),
+        floors: pairs(&plan.floors, first + 1, count - 1),
+        new_heads: pairs_mut(new.heads, first + 1, count - 1),
+        new_flows: pairs_mut(new.flows, first + 1, count - 1),
+    };
+    let cp = sweep::<TAKE>(pipe.s, rows, faults);
+    last_sections::<TAKE>(plan, pipe, old, new, envelopes, faults, cp)
+}
+
+/// Works out the new pairs. CP of sections i + 1 and i + 2 comes from sections i and i + 1, and CM
+/// of the same two from i + 2 and i + 3, so that pairs fit together without being shifted, and what
+/// a section hands to its two neighbours is worked out once. Answers CP of the two sections after
+/// the first of the last old pair. Not inlined, so that one index serves all rows.
+#[inline(never)]
+fn sweep<const TAKE: bool>(s: f64, rows: Pairs<'_>, faults: &mut Faults) -> [f64; 2] {
+    let (s, s_twice, half) = (Two::both(s), Two::both(s + s), Two::both(0.5));
+    let (h, q) = (Two(rows.heads[0]), Two(rows.flows[0]));
+    let mut cp = (q + s * h) - (Two(rows.friction_below[0]) * q) * q.magnitude();
+    if TAKE {
+        rows.highest[0] = h.or_greater(Two(rows.highest[0])).0;
+        rows.lowest[0] = h.or_less(Two(rows.lowest[0])).0;
+    }
+    let count = rows.new_heads.len();
+    let (heads, flows) = (&rows.heads[1..=count], &rows.flows[1..=count]);
+    let (highest, lowest) = (&mut rows.highest[1..=count], &mut rows.lowest[1..=count]);
+    let (above, below) = (&rows.friction_above[..count], &rows.friction_below[1..=count]);
+    let (floors, new_flows) = (&rows.floors[..count], &mut rows.new_flows[..count]);
+    for at in 0..count {
+        let (h, q) = (Two(heads[at]), Two(flows[at]));
+        let (sh, size) = (s * h, q.magnitude());
+        let cm = (q - sh) - (Two(above[at]) * q) * size;
+        // Half a number and a number divided by 2 round alike.
+        let (head, flow) = ((cp - cm) / s_twice, (cp + cm) * half);
+        cp = (q + sh) - (Two(below[at]) * q) * size;
+        rows.new_heads[at] = head.0;
+        new_flows[at] = flow.0;
+        faults.look_at(head, flow, Two(floors[at]));
+        if TAKE {
+            highest[at] = h.or_greater(Two(highest[at])).0;
+            lowest[at] = h.or_less(Two(lowest[at])).0;
+        }
+    }
+    cp.0
+}
+
+/// What the pairs leave over: where the reaches are even in number, the last inner section and the
+/// envelopes of the last section; and K at both ends.
+#[inline(always)]
+fn last_sections<const TAKE: bool>(
+    plan: &Plan<'_>,
+    pipe: &PipePlan,
+    old: &State<'_>,
+    new: &mut State<'_>,
+    envelopes: &mut Envelopes<'_>,
+    faults: &mut Faults,
+    cp: [f64; 2],
+) -> EndK {
+    let (first, last) = (pipe.first, pipe.first + pipe.reaches);
+    let old_at = |at: usize| Point { head: old.heads[at], flow: old.flows[at] };
+    let start = start_k(from_below(pipe.s, plan.friction[first], old_at(first + 1)));
+    if pipe.reaches % 2 == 1 {
+        return EndK { start, finish: cp[0] };
+    }
+    let cm = from_below(pipe.s, plan.friction[last - 1], old_at(last));
+    let point = inner(pipe.s, cp[0], cm);
+    new.heads[last - 1] = point.head;
+    new.flows[last - 1] = point.flow;
+    let floor = plan.floors[last - 1];
+    faults.look_at(Two::both(point.head), Two::both(point.flow), Two::both(floor));
+    if TAKE {
+        envelopes.take(&old.heads[..=last], last);
+    }
+    EndK { start, finish: cp[1] }
+}

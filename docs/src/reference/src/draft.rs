@@ -1,0 +1,159 @@
+//! A job as a program puts it together, before it is written down as bytes. Nothing is judged
+//! here, so that jobs to be refused can be written too.
+
+use crate::job::{Job, Kind};
+
+#[derive(Clone, Debug, Default, PartialEq)]
+pub struct Draft {
+    /// Steps for the listing.
+    pub steps: u32,
+    pub pipes: Vec<DraftPipe>,
+    pub nodes: Vec<DraftNode>,
+    /// R of each reach, pipe by pipe.
+    pub friction: Vec<f64>,
+    /// Head, flow and floor head of each section.
+    pub sections: Vec<[f64; 3]>,
+}
+
+#[derive(Clone, Debug, PartialEq)]
+pub struct DraftPipe {
+    pub start: u8,
+    pub finish: u8,
+    pub reaches: u16,
+    pub s: f64,
+}
+
+#[derive(Clone, Debug, PartialEq)]
+pub struct DraftNode {
+    pub kind: u8,
+    /// a, b and c.
+    pub figures: [f64; 3],
+    /// At most 255 entries, since a record counts them in a byte.
+    pub schedule: Vec<f64>,
+}
+
+impl DraftNode {
+    pub fn junction(draws: &[f64]) -> DraftNode {
+        DraftNode { kind: 0, figures: [0.0; 3], schedule: draws.to_vec() }
+    }
+
+    pub fn reservoir(levels: &[f64]) -> DraftNode {
+        DraftNode { kind: 1, figures: [0.0; 3], schedule: levels.to_vec() }
+    }
+
+    pub fn valve(a: f64, b: f64, openings: &[f64]) -> DraftNode {
+        DraftNode { kind: 2, figures: [a, b, 0.0], schedule: openings.to_vec() }
+    }
+
+    pub fn pump(a: f64, b: f64, c: f64, speeds: &[f64]) -> DraftNode {
+        DraftNode { kind: 3, figures: [a, b, c], schedule: speeds.to_vec() }
+    }
+}
+
+impl Draft {
+    /// Adds a node; answers its number.
+    pub fn node(&mut self, node: DraftNode) -> u8 {
+        self.nodes.push(node);
+        (self.nodes.len() - 1) as u8
+    }
+
+    /// Adds a pipe whose reaches all have friction `r`; answers its number.
+    pub fn pipe(&mut self, start: u8, finish: u8, reaches: u16, s: f64, r: f64) -> usize {
+        self.pipes.push(DraftPipe { start, finish, reaches, s });
+        self.friction.extend(vec![r; usize::from(reaches)]);
+        self.pipes.len() - 1
+    }
+
+    /// Adds a section to those of the pipes in order.
+    pub fn section(&mut self, head: f64, flow: f64, floor: f64) {
+        self.sections.push([head, flow, floor]);
+    }
+
+    /// Sections that the pipes have in all.
+    pub fn section_count(&self) -> usize {
+        self.pipes.iter().map(|pipe| usize::from(pipe.reaches) + 1).sum()
+    }
+
+    /// How many bytes the job has.
+    pub fn byte_count(&self) -> usize {
+        let entries: usize = self.nodes.iter().map(|node| node.schedule.len()).sum();
+        46 + 12 * self.pipes.len()
+            + 26 * self.nodes.len()
+            + 8 * self.friction.len()
+            + 24 * self.sections.len()
+            + 8 * entries
+    }
+
+    /// The bytes of the job.
+    pub fn bytes(&self) -> Vec<u8> {
+        Draft::bytes_of(self.steps, &self.tables())
+    }
+
+    /// The bytes of a job of these tables, each next one where the last ended.
+    pub fn bytes_of(steps: u32, tables: &[Vec<u8>; 5]) -> Vec<u8> {
+        let mut bytes = Vec::new();
+        bytes.extend(5_u16.to_le_bytes());
+        bytes.extend(steps.to_le_bytes());
+        let mut offset = 46;
+        for table in tables {
+            bytes.extend((offset as u32).to_le_bytes());
+            bytes.extend((table.len() as u32).to_le_bytes());
+            offset += table.len();
+        }
+        for table in tables {
+            bytes.extend(table);
+        }
+        bytes
+    }
+
+    /// The five tables.
+    pub fn tables(&self) -> [Vec<u8>; 5] {
+        let mut tables: [Vec<u8>; 5] = Default::default();
+        for pipe in &self.pipes {
+            tables[0].extend([pipe.start, pipe.finish]);
+            tables[0].extend(pipe.reaches.to_le_bytes());
+            push_numbers(&mut tables[0], &[pipe.s]);
+        }
+        for node in &self.nodes {
+            tables[1].extend([node.kind, node.schedule.len() as u8]);
+            push_numbers(&mut tables[1], &node.figures);
+            push_numbers(&mut tables[4], &node.schedule);
+        }
+        push_numbers(&mut tables[2], &self.friction);
+        for section in &self.sections {
+            push_numbers(&mut tables[3], section);
+        }
+        tables
+    }
+}
+
+fn push_numbers(bytes: &mut Vec<u8>, numbers: &[f64]) {
+    for number in numbers {
+        bytes.extend(number.to_bits().to_le_bytes());
+    }
+}
+
+impl From<&Job> for Draft {
+    /// The draft whose bytes the job was read from.
+    fn from(job: &Job) -> Draft {
+        let pipes = job.pipes.iter().map(|pipe| DraftPipe {
+            start: pipe.start as u8,
+            finish: pipe.finish as u8,
+            reaches: pipe.reaches as u16,
+            s: pipe.s,
+        });
+        let nodes = job.nodes.iter().map(|node| match node.kind {
+            Kind::Junction => DraftNode::junction(&node.schedule),
+            Kind::Reservoir => DraftNode::reservoir(&node.schedule),
+            Kind::Valve { a, b } => DraftNode::valve(a, b, &node.schedule),
+            Kind::Pump { a, b, c } => DraftNode::pump(a, b, c, &node.schedule),
+        });
+        Draft {
+            steps: job.steps,
+            pipes: pipes.collect(),
+            nodes: nodes.collect(),
+            friction: job.friction.clone(),
+            sections: job.initial.iter().map(|at| [at.head, at.flow, at.floor]).collect(),
+        }
+    }
+}

@@ -1,0 +1,25 @@
+//! Jobs at random, the same ones from the same seed: sound ones, odd ones that are accepted all
+//! the same, and damaged ones.
+
+mod damaged;
+mod network;
+mod odd;
+mod random;
+mod sound;
+
+pub use damaged::{damaged, damaged_anywhere};
+pub use odd::odd;
+pub use random::Random;
+pub use sound::sound;
+
+/// Counts of steps that add up to `steps`, with some of 0 among them: a long run-on cut up.
+pub fn cut_up(random: &mut Random, steps: u64) -> Vec<u64> {
+    let mut counts = Vec::new();
+    let mut left = steps;
+    while left > 0 {
+        let count = random.from_to(0, left as usize) as u64;
+        counts.push(count);
+        left -= count;
+    }
+    counts
+}

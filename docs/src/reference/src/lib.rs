@@ -1,0 +1,28 @@
+//! Document 01 ("Water hammer in pumping mains: the calculator") implemented a second time,
+//! from the paper alone, to compare the proved calculator with.
+//!
+//! - [`reader`]: questions 1 to 15; [`job`]: what an accepted job says.
+//! - [`root`], [`wave`], [`node`]: the equations, rounded once an operation in the written order.
+//! - [`run`]: start and run-on over six lent rows; [`listing`]: the lines of the program.
+//! - [`baseline`]: the same run-on written for speed.
+//! - [`draft`], [`generate`]: jobs built by a program, sound, odd and damaged ones at random.
+//! - [`text`], [`decimals`], [`refusal`]: jobs and listings that people can read.
+//! - [`samples`], [`lauria`]: sample jobs, one of them out of a thesis with its printed heads.
+
+pub mod baseline;
+pub mod decimals;
+pub mod draft;
+pub mod fields;
+pub mod generate;
+pub mod job;
+pub mod lauria;
+pub mod listing;
+pub mod node;
+pub mod reader;
+pub mod refusal;
+pub mod root;
+pub mod rows;
+pub mod run;
+pub mod samples;
+pub mod text;
+pub mod wave;

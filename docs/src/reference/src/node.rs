@@ -1,0 +1,127 @@
+//! The head at a node of each kind.
+
+use crate::job::Kind;
+use crate::root::root;
+use crate::wave::{magnitude, Sums};
+
+/// The root where it is taken in an equation; `None` where its argument is not finite. The
+/// arguments of both equations are never below zero.
+fn root_taken(x: f64) -> Option<f64> {
+    root(x).ok()
+}
+
+/// q through a valve of opening `v`, out of the node; `None` where a root cannot be taken.
+pub fn valve_flow(v: f64, a: f64, b: f64, sums: Sums) -> Option<f64> {
+    let Sums { b: sum_k, t } = sums;
+    let w = ((v * a) * (v * a)) / t;
+    let y = sum_k - t * b;
+    if w == 0.0 {
+        return Some(0.0);
+    }
+    let z = magnitude(y);
+    let r = root_taken(w * w + 4.0 * (w * z))?;
+    let q = ((z + z) * w) / (w + r);
+    Some(if y < 0.0 { -q } else { q })
+}
+
+/// q from a pump of speed `v`, into the node; `None` where a root cannot be taken.
+pub fn pump_flow(v: f64, a: f64, b: f64, c: f64, sums: Sums) -> Option<f64> {
+    let Sums { b: sum_k, t } = sums;
+    let h = c + (v * v) * a;
+    let y = t * h - sum_k;
+    if y > 0.0 {
+        let r = root_taken(1.0 + 4.0 * ((b * t) * y))?;
+        Some((y + y) / (1.0 + r))
+    } else {
+        Some(0.0)
+    }
+}
+
+/// H of a node whose scheduled value at the step is `v`: plus infinity where B, T or the argument
+/// of a root that is taken is not finite.
+pub fn head(kind: Kind, v: f64, sums: Sums) -> f64 {
+    let Sums { b: sum_k, t } = sums;
+    if !(sum_k.is_finite() && t.is_finite()) {
+        return f64::INFINITY;
+    }
+    match kind {
+        Kind::Junction => (sum_k - v) / t,
+        Kind::Reservoir => v,
+        Kind::Valve { a, b } => match valve_flow(v, a, b, sums) {
+            Some(q) => (sum_k - q) / t,
+            None => f64::INFINITY,
+        },
+        Kind::Pump { a, b, c } => match pump_flow(v, a, b, c, sums) {
+            Some(q) => (sum_k + q) / t,
+            None => f64::INFINITY,
+        },
+    }
+}
+
+#[cfg(test)]
+mod tests {
+    use super::*;
+
+    const VALVE_OF_Q: Kind = Kind::Valve { a: 2.0, b: 6.0 };
+    const PUMP_OF_P8: Kind = Kind::Pump { a: 10.0, b: 1.5, c: 0.0 };
+
+    fn sums(b: f64, t: f64) -> Sums {
+        Sums { b, t }
+    }
+
+    #[test]
+    fn p6_and_p7() {
+        assert_eq!(valve_flow(1.0, 2.0, 6.0, sums(14.0, 1.0)), Some(4.0));
+        assert_eq!(head(VALVE_OF_Q, 1.0, sums(14.0, 1.0)), 10.0);
+        assert_eq!(valve_flow(1.0, 2.0, 6.0, sums(3.0, 1.0)), Some(-2.0));
+        assert_eq!(head(VALVE_OF_Q, 1.0, sums(3.0, 1.0)), 5.0);
+    }
+
+    #[test]
+    fn p8() {
+        assert_eq!(pump_flow(1.0, 10.0, 1.5, 0.0, sums(2.0, 1.0)), Some(2.0));
+        assert_eq!(head(PUMP_OF_P8, 1.0, sums(2.0, 1.0)), 4.0);
+        assert_eq!(pump_flow(0.0, 10.0, 1.5, 0.0, sums(2.0, 1.0)), Some(0.0));
+        assert_eq!(head(PUMP_OF_P8, 0.0, sums(2.0, 1.0)), 2.0);
+    }
+
+    #[test]
+    fn p9() {
+        let both = Sums::ZERO.and(14.0, 1.0).and(6.0, 1.0);
+        assert_eq!(head(Kind::Junction, 4.0, both), 8.0);
+    }
+
+    #[test]
+    fn sums_not_finite_give_plus_infinity_for_every_kind() {
+        for kind in [Kind::Junction, Kind::Reservoir, VALVE_OF_Q, PUMP_OF_P8] {
+            for bad in [f64::INFINITY, f64::NEG_INFINITY, f64::NAN] {
+                assert_eq!(head(kind, 0.0, sums(bad, 1.0)), f64::INFINITY);
+            }
+            assert_eq!(head(kind, 0.0, sums(1.0, f64::INFINITY)), f64::INFINITY);
+        }
+    }
+
+    #[test]
+    fn a_root_not_taken_is_not_judged() {
+        // A shut valve whose T·b passes every f64, and a pump whose head does, downwards.
+        let shut = Kind::Valve { a: 1e200, b: 1e300 };
+        assert_eq!(head(shut, 0.0, sums(2.0, 1e20)), 2e-20);
+        let deep = Kind::Pump { a: 0.0, b: 1.0, c: -1e300 };
+        assert_eq!(head(deep, 1.0, sums(2.0, 1e20)), 2e-20);
+    }
+
+    #[test]
+    fn a_root_taken_of_no_finite_number_gives_plus_infinity() {
+        let wide = Kind::Valve { a: 1e200, b: 0.0 };
+        assert_eq!(head(wide, 1.0, sums(2.0, 1.0)), f64::INFINITY);
+        // y is infinite and b·T zero, so the argument is no number.
+        let high = Kind::Pump { a: 1e300, b: 0.0, c: 0.0 };
+        assert_eq!(head(high, 1.0, sums(2.0, 1e20)), f64::INFINITY);
+    }
+
+    #[test]
+    fn a_valve_whose_w_comes_to_zero_passes_nothing() {
+        let hair = Kind::Valve { a: 1e-200, b: 6.0 };
+        assert_eq!(head(hair, 1.0, sums(14.0, 1.0)), 14.0);
+    }
+}

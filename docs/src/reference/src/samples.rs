@@ -1,0 +1,212 @@
+//! The sample jobs, built from the figures that an engineer would have.
+
+use crate::draft::{Draft, DraftNode};
+use crate::lauria;
+use std::f64::consts::PI;
+
+/// A sample job: the name of its file, a line on what it is, and the job.
+pub struct Sample {
+    pub name: &'static str,
+    pub about: &'static str,
+    pub draft: Draft,
+}
+
+pub fn all() -> Vec<Sample> {
+    let sample = |name, about, draft| Sample { name, about, draft };
+    vec![
+        sample(
+            "job-q",
+            "Document 01's job Q: a reservoir, one pipe without friction, and a valve shut in the first step.",
+            job_q(),
+        ),
+        sample(
+            "rising-main",
+            "A rising main of 2,000 m: the pump is slowed down over 24 s and its non-return valve shuts.",
+            rising_main(&slowing_down(240)),
+        ),
+        sample(
+            "branches-and-loop",
+            "A network at rest, with a branch and a loop: two draw-offs begin, a valve opens and shuts again, a pump starts and stops.",
+            branches_and_loop(),
+        ),
+        sample(
+            "stops-as-40",
+            "A friction a thousand times too large: the flows run away and the run stops as 40 (notfinite).",
+            friction_too_large(),
+        ),
+        sample(
+            "stops-as-41",
+            "The rising main with the power cut at once: the column parts and the run stops as 41 (parted).",
+            rising_main(&[1.0, 0.0]),
+        ),
+        sample(
+            "lauria",
+            "Lauria's thesis, table 4: a valve shut in 2.1 s at the end of a pipe of 600 m (see lauria.md).",
+            lauria::draft(),
+        ),
+    ]
+}
+
+/// Document 01's job Q.
+pub fn job_q() -> Draft {
+    let mut draft = Draft { steps: 1, ..Draft::default() };
+    let upper = draft.node(DraftNode::reservoir(&[10.0]));
+    let lower = draft.node(DraftNode::valve(2.0, 6.0, &[0.0]));
+    draft.pipe(upper, lower, 2, 1.0, 0.0);
+    for _ in 0..3 {
+        draft.section(10.0, 4.0, 0.0);
+    }
+    draft
+}
+
+/// A pipe in the engineer's figures, in metres and seconds.
+pub struct PipeFigures {
+    pub gravity: f64,
+    pub wave_speed: f64,
+    pub diameter: f64,
+    /// Darcy's f.
+    pub friction_factor: f64,
+    pub step_time: f64,
+}
+
+impl PipeFigures {
+    pub fn area(&self) -> f64 {
+        PI * self.diameter * self.diameter / 4.0
+    }
+
+    /// S = g·A/a.
+    pub fn s(&self) -> f64 {
+        self.gravity * self.area() / self.wave_speed
+    }
+
+    /// R = f·dt/(2·D·A).
+    pub fn r(&self) -> f64 {
+        self.friction_factor * self.step_time / (2.0 * self.diameter * self.area())
+    }
+
+    /// The head that a steady flow loses along one reach.
+    pub fn loss(&self, flow: f64) -> f64 {
+        self.r() * flow * flow.abs() / self.s()
+    }
+}
+
+/// Speeds from 1 down to 0 in equal parts.
+fn slowing_down(steps: u32) -> Vec<f64> {
+    (1..=steps).map(|step| f64::from(steps - step) / f64::from(steps)).collect()
+}
+
+/// A pump lifts 0.15 m³/s from a sump at 0 m through 2,000 m of pipe to a reservoir at 40 m. The
+/// pipe climbs evenly to 38 m, and water vaporises 10 m below it.
+fn rising_main(speeds: &[f64]) -> Draft {
+    let pipe = PipeFigures {
+        gravity: 9.81,
+        wave_speed: 1000.0,
+        diameter: 0.4,
+        friction_factor: 0.02,
+        step_time: 0.1,
+    };
+    let (reaches, flow, level, shut_off) = (20_u16, 0.15, 40.0, 60.0);
+    let head = level + f64::from(reaches) * pipe.loss(flow);
+    let mut draft = Draft { steps: 600, ..Draft::default() };
+    let pump = DraftNode::pump(shut_off, (shut_off - head) / (flow * flow), 0.0, speeds);
+    let pump = draft.node(pump);
+    let reservoir = draft.node(DraftNode::reservoir(&[level]));
+    draft.pipe(pump, reservoir, reaches, pipe.s(), pipe.r());
+    for place in 0..=reaches {
+        let along = f64::from(place);
+        let elevation = 38.0 * along / f64::from(reaches);
+        draft.section(head - along * pipe.loss(flow), flow, elevation - 10.0);
+    }
+    draft
+}
+
+/// Reservoir 0 feeds junction 1; pipes 1-2, 2-3 and 1-3 are a loop; a branch goes from 2 to the
+/// draw-off at 4, a main from 3 to the valve 5, and pump 6 delivers into 3. At rest at 80 m.
+fn branches_and_loop() -> Draft {
+    let level = 80.0;
+    let mut draft = Draft { steps: 400, ..Draft::default() };
+    draft.node(DraftNode::reservoir(&[level]));
+    draft.node(DraftNode::junction(&[0.0]));
+    draft.node(DraftNode::junction(&[0.0, 0.0, 0.0, 0.0, 0.005, 0.01]));
+    draft.node(DraftNode::junction(&[0.0]));
+    draft.node(DraftNode::junction(&[0.0, 0.002, 0.004, 0.006]));
+    draft.node(DraftNode::valve(0.004, 10.0, &opening_and_shutting(200)));
+    draft.node(DraftNode::pump(95.0, 2000.0, 2.0, &opening_and_shutting(240)));
+    for (start, finish, reaches, diameter) in [
+        (0, 1, 12, 0.4),
+        (1, 2, 7, 0.3),
+        (2, 3, 9, 0.25),
+        (1, 3, 11, 0.3),
+        (2, 4, 6, 0.2),
+        (3, 5, 10, 0.3),
+        (6, 3, 5, 0.2),
+    ] {
+        let pipe = PipeFigures {
+            gravity: 9.81,
+            wave_speed: 1100.0,
+            diameter,
+            friction_factor: 0.019,
+            step_time: 0.05,
+        };
+        draft.pipe(start, finish, reaches, pipe.s(), pipe.r());
+    }
+    for _ in 0..draft.section_count() {
+        draft.section(level, 0.0, -8.0);
+    }
+    draft
+}
+
+/// Values from 0 up to 1 and down to 0 again, in two halves of equal parts.
+fn opening_and_shutting(steps: u32) -> Vec<f64> {
+    let half = steps / 2;
+    let value = |step: u32| f64::from(if step <= half { step } else { 2 * half - step });
+    (1..=2 * half).map(|step| value(step) / f64::from(half)).collect()
+}
+
+/// A reservoir and an open valve; R was entered with the wrong unit.
+fn friction_too_large() -> Draft {
+    let mut draft = Draft { steps: 100, ..Draft::default() };
+    let upper = draft.node(DraftNode::reservoir(&[50.0]));
+    let lower = draft.node(DraftNode::valve(0.02, 0.0, &[1.0]));
+    draft.pipe(upper, lower, 8, 0.001, 100.0);
+    for _ in 0..9 {
+        draft.section(50.0, 0.1, -1e308);
+    }
+    draft
+}
+
+/// One pipe of 511 reaches from a reservoir to a valve that stays partly open, to be timed.
+pub fn one_long_pipe() -> Draft {
+    let openings: Vec<f64> = (1..=200).map(|step| 1.0 - f64::from(step) / 400.0).collect();
+    let mut draft = Draft { steps: 10_000, ..Draft::default() };
+    let upper = draft.node(DraftNode::reservoir(&[150.0]));
+    let lower = draft.node(DraftNode::valve(0.04, 0.0, &openings));
+    draft.pipe(upper, lower, 511, 0.0016, 0.0);
+    // Each reach has its own friction and each section its own floor.
+    draft.friction.iter_mut().zip(0..).for_each(|(r, at)| *r = 9e-5 + 1e-8 * f64::from(at));
+    for at in 0..512 {
+        draft.section(150.0 - f64::from(at) * 0.0128, 0.477, -10.0 - 0.001 * f64::from(at));
+    }
+    draft
+}
+
+/// 32 pipes of 15 reaches: eight rings of four pipes, each ring with a reservoir, a junction, a
+/// valve and a pump, to be timed.
+pub fn many_pipes() -> Draft {
+    let mut draft = Draft { steps: 10_000, ..Draft::default() };
+    for _ in 0..8 {
+        let reservoir = draft.node(DraftNode::reservoir(&[80.0]));
+        let junction = draft.node(DraftNode::junction(&[0.001, 0.002]));
+        let valve = draft.node(DraftNode::valve(0.01, 10.0, &[0.9, 0.8, 0.7]));
+        let pump = draft.node(DraftNode::pump(95.0, 2000.0, 2.0, &[0.8, 0.9, 1.0]));
+        for (start, finish) in
+            [(reservoir, junction), (junction, valve), (pump, valve), (reservoir, pump)]
+        {
+            draft.pipe(start, finish, 15, 0.001, 0.01);
+        }
+    }
+    for _ in 0..draft.section_count() {
+        draft.section(80.0, 0.0, -10.0);
+    }
+    draft
+}

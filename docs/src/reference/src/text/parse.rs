@@ -1,0 +1,117 @@
+//! A job from its text.
+
+use super::{FIGURES, KINDS};
+use crate::draft::{Draft, DraftNode, DraftPipe};
+use std::str::{FromStr, SplitWhitespace};
+
+/// The job that the text says, or in words what does not read.
+pub fn from_text(text: &str) -> Result<Draft, String> {
+    let mut draft = Draft::default();
+    let mut schedules = Vec::new();
+    for (line, at) in text.lines().zip(1..) {
+        let said = line.split('#').next().unwrap_or("");
+        read_line(Words(said.split_whitespace()), &mut draft, &mut schedules)
+            .map_err(|words| format!("line {at}: {words}"))?;
+    }
+    let (nodes, given) = (draft.nodes.len(), schedules.len());
+    if nodes != given {
+        return Err(format!("there are {nodes} nodes but {given} schedules"));
+    }
+    for (node, schedule) in draft.nodes.iter_mut().zip(schedules) {
+        node.schedule = schedule;
+    }
+    Ok(draft)
+}
+
+/// The words of a line that are left to read.
+struct Words<'a>(SplitWhitespace<'a>);
+
+impl Words<'_> {
+    /// The value after the word that names it.
+    fn named<T: FromStr>(&mut self, name: &str) -> Result<T, String> {
+        match self.0.next() {
+            None => Err(format!("`{name}` is missing")),
+            Some(word) if word == name => self.value(name),
+            Some(word) => Err(format!("`{name}` was looked for where `{word}` stands")),
+        }
+    }
+
+    /// The next word as a value of the field `name`.
+    fn value<T: FromStr>(&mut self, name: &str) -> Result<T, String> {
+        let word = self.0.next().ok_or(format!("nothing follows `{name}`"))?;
+        word.parse().map_err(|_| format!("`{word}` does not fit as {name}"))
+    }
+
+    /// How many times a line is meant: once where it does not say.
+    fn times(&mut self) -> Result<usize, String> {
+        match self.0.clone().next() {
+            Some("times") => self.named::<u16>("times").map(usize::from),
+            _ => Ok(1),
+        }
+    }
+
+    fn end(mut self) -> Result<(), String> {
+        match self.0.next() {
+            None => Ok(()),
+            Some(word) => Err(format!("`{word}` is one word too many")),
+        }
+    }
+}
+
+fn read_line(
+    mut words: Words<'_>,
+    draft: &mut Draft,
+    schedules: &mut Vec<Vec<f64>>,
+) -> Result<(), String> {
+    let Some(first) = words.0.next() else {
+        return Ok(());
+    };
+    match first {
+        "steps" => draft.steps = words.value("steps")?,
+        "pipe" => draft.pipes.push(pipe(&mut words)?),
+        "node" => draft.nodes.push(node(&mut words)?),
+        "reach" => {
+            let r: f64 = words.named("R")?;
+            draft.friction.extend(vec![r; words.times()?]);
+        }
+        "section" => {
+            let section = [words.named("head")?, words.named("flow")?, words.named("floor")?];
+            draft.sections.extend(vec![section; words.times()?]);
+        }
+        "schedule" => schedules.push(schedule(&mut words)?),
+        word => return Err(format!("no line begins with `{word}`")),
+    }
+    words.end()
+}
+
+fn pipe(words: &mut Words<'_>) -> Result<DraftPipe, String> {
+    Ok(DraftPipe {
+        start: words.named("from")?,
+        finish: words.named("to")?,
+        reaches: words.named("reaches")?,
+        s: words.named("S")?,
+    })
+}
+
+/// A node without its schedule, which has a line of its own.
+fn node(words: &mut Words<'_>) -> Result<DraftNode, String> {
+    let word: String = words.value("node")?;
+    let kind = KINDS.iter().position(|&(name, _)| name == word);
+    let kind = kind.ok_or(format!("`{word}` is no kind of node"))?;
+    let mut figures = [0.0; 3];
+    for (name, figure) in FIGURES.iter().zip(&mut figures).take(KINDS[kind].1) {
+        *figure = words.named(name)?;
+    }
+    Ok(DraftNode { kind: kind as u8, figures, schedule: Vec::new() })
+}
+
+fn schedule(words: &mut Words<'_>) -> Result<Vec<f64>, String> {
+    let mut entries = Vec::new();
+    while words.0.clone().next().is_some() {
+        entries.push(words.value("schedule")?);
+    }
+    if entries.len() > 255 {
+        return Err(format!("a schedule has at most 255 entries, not {}", entries.len()));
+    }
+    Ok(entries)
+}
