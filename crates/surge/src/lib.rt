@@ -163,7 +163,7 @@ pub fn run_on(
 {
     let read = job::read(job);
     match read {
-        Read::Refused(q) => Answer::Refused(q),
+        Read::Refused(question) => Answer::Refused(question),
         Read::Accepted { sections, steps: _ } => {
             if !enough(
                 sections,
@@ -176,10 +176,12 @@ pub fn run_on(
             ) {
                 return Answer::Refused(20);
             }
-            if !within_limit(done, count) {
+            let limit = within_limit(done, count);
+            let held = state::acceptable(job, sections, heads, flows, highest, lowest);
+            if !limit {
                 return Answer::Refused(21);
             }
-            if !state::acceptable(job, sections, heads, flows, highest, lowest) {
+            if !held {
                 return Answer::Refused(22);
             }
             carry_on(

@@ -30,33 +30,38 @@ lent-enough : (c : tie.After-enough) → c .enough .result ≡ enoughLent (secti
 unfolding enoughLent
 lent-enough c = c .enough .ensures ∙ rw (told (c .before .before) .1)
 
--- question 22
-acceptable-is : (c : tie.After-acceptable) → c .acceptable .result ≡ acceptable (jobOf (c .before .before .before .before .before .before .before .before .before .before .before .before .before .before .before .before .before .before .before .before .args .job .now)) (stateIn (sections (jobOf (c .before .before .before .before .before .before .before .before .before .before .before .before .before .before .before .before .before .before .before .before .args .job .now))) (lent (c .before .before .before .before .before .before .before .before .before .before .before .before .before .before .before .before .before .before .before .before)))
+-- question 20 has a yes, and question 22 is asked of what the rows hold
+is-enough : (c : tie.After-acceptable) → enoughLent (sections (jobOf (c .before .before .before .before .before .before .before .before .before .before .before .before .before .before .before .before .before .before .before .args .job .now))) (lent (c .before .before .before .before .before .before .before .before .before .before .before .before .before .before .before .before .before .before .before)) ≡ true
+is-enough c = is-yes (lent-enough (c .before .before .before .before .before .before .before)) (c .before .before .before .before .before .before .if1 .left)
+
+acceptable-is : (c : tie.After-acceptable) → c .acceptable .result ≡ acceptable (jobOf (c .before .before .before .before .before .before .before .before .before .before .before .before .before .before .before .before .before .before .before .args .job .now)) (stateIn (sections (jobOf (c .before .before .before .before .before .before .before .before .before .before .before .before .before .before .before .before .before .before .before .args .job .now))) (lent (c .before .before .before .before .before .before .before .before .before .before .before .before .before .before .before .before .before .before .before)))
 unfolding stateIn pointIn
-acceptable-is c = c .acceptable .ensures ∙ rw (told (c .before .before .before .before .before .before .before .before .before .before) .1)
+acceptable-is c = c .acceptable .ensures ∙ rw (told (c .before .before .before .before .before .before .before .before .before) .1)
 
 returns : tie.Need-returns
 returns c = run-short _ (lent (c .before .before .before .before .before .before .before .before .before .before .before .before .before)) (told (c .before .before .before) .0) _ _ (is-no (lent-enough (c .before)) (c .if1 .taken))
 
-returns-2 : tie.Need-returns-2
-returns-2 c =
-    run-beyond _ (lent (c .before .before .before .before .before .before .before .before .before .before .before .before .before .before .before)) (told (c .before .before .before .before .before) .0) _ _ (is-yes (lent-enough (c .before .before .before)) (c .before .before .if1 .left)) (is-no (c .before .within-limit .ensures) (c .if2 .taken))
-
 acceptable-requires : tie.Need-acceptable-requires
 acceptable-requires c κs =
-    let t = told (c .before .before .before .before .before .before .before .before .before) in
-    let l = enough-lengths _ (lent (c .before .before .before .before .before .before .before .before .before .before .before .before .before .before .before .before .before .before .before)) (is-yes (lent-enough (c .before .before .before .before .before .before .before)) (c .before .before .before .before .before .before .if1 .left)) in
+    let t = told (c .before .before .before .before .before .before .before .before) in
+    let l = enough-lengths _ (lent (c .before .before .before .before .before .before .before .before .before .before .before .before .before .before .before .before .before .before)) (is-yes (lent-enough (c .before .before .before .before .before .before)) (c .before .before .before .before .before .if1 .left)) in
     (t, rw (t .1) (l .heads, l .flows, l .highest, l .lowest))
+
+returns-2 : tie.Need-returns-2
+returns-2 c =
+    let a = c .before in
+    run-beyond _ (lent (c .before .before .before .before .before .before .before .before .before .before .before .before .before .before .before .before .before .before .before .before)) (told (c .before .before .before .before .before .before .before .before .before .before) .0) _ _ (is-enough a) (is-no (c .before .before .before .before .before .before .within-limit .ensures) (c .if2 .taken))
 
 returns-3 : tie.Need-returns-3
 returns-3 c =
-    run-unacceptable _ (lent (c .before .before .before .before .before .before .before .before .before .before .before .before .before .before .before .before .before .before .before .before .before)) (told (c .before .before .before .before .before .before .before .before .before .before .before) .0) _ _ (is-yes (lent-enough (c .before .before .before .before .before .before .before .before .before)) (c .before .before .before .before .before .before .before .before .if1 .left)) (is-yes (c .before .before .before .before .before .before .before .within-limit .ensures) (c .before .before .before .before .before .before .if2 .left))
-    (is-no (acceptable-is (c .before)) (c .if3 .taken))
+    let a = c .before .before in
+    run-unacceptable _ (lent (c .before .before .before .before .before .before .before .before .before .before .before .before .before .before .before .before .before .before .before .before .before)) (told (c .before .before .before .before .before .before .before .before .before .before .before) .0) _ _ (is-enough a) (is-yes (c .before .before .before .before .before .before .before .within-limit .ensures) (c .before .if2 .left))
+    (is-no (acceptable-is a) (c .if3 .taken))
 
 carry-on-requires : tie.Need-carry-on-requires
 carry-on-requires c κs =
     let t = told (c .before .before .before .before .before .before .before .before .before .before .before .before .before .before .before .before .before) in
-    (record { accepted = t .0; count = t .1; enough = rw (t .1) (is-yes (lent-enough (c .before .before .before .before .before .before .before .before .before .before .before .before .before .before .before)) (c .before .before .before .before .before .before .before .before .before .before .before .before .before .before .if1 .left)) }, limit-kept _ _ (is-yes (c .before .before .before .before .before .before .before .before .before .before .before .before .before .within-limit .ensures) (c .before .before .before .before .before .before .before .before .before .before .before .before .if2 .left)))
+    (record { accepted = t .0; count = t .1; enough = rw (t .1) (is-enough (c .before .before .before .before .before .before .before .before)) }, limit-kept _ _ (is-yes (c .before .before .before .before .before .before .before .before .before .before .before .before .before .within-limit .ensures) (c .before .before .before .before .before .before .before .if2 .left)))
 
 returns-4 : tie.Need-returns-4
 returns-4 c =
@@ -64,12 +69,11 @@ returns-4 c =
 
 returns-5 : tie.Need-returns-5
 returns-5 c =
-    let s = c .before .before .before .before .before .before .before .before .before .before .before .before .before .before .before .before .before .before .before .before .before .before .before .before .before .before .before .before .before .before .before .before .before .before .before .before .before .before .before .before in
+    let a = c .before .before .before .before .before .before .before .before .before .before .before .before .before .before .before .before .before .before .before .before .before in
     let t = told (c .before .before .before .before .before .before .before .before .before .before .before .before .before .before .before .before .before .before .before .before .before .before .before .before .before .before .before .before .before .before) in
-    let e = is-yes (lent-enough (c .before .before .before .before .before .before .before .before .before .before .before .before .before .before .before .before .before .before .before .before .before .before .before .before .before .before .before .before)) (c .before .before .before .before .before .before .before .before .before .before .before .before .before .before .before .before .before .before .before .before .before .before .before .before .before .before .before .if1 .left) in
-    let l = is-yes (c .before .before .before .before .before .before .before .before .before .before .before .before .before .before .before .before .before .before .before .before .before .before .before .before .before .before .within-limit .ensures) (c .before .before .before .before .before .before .before .before .before .before .before .before .before .before .before .before .before .before .before .before .before .before .before .before .before .if2 .left) in
-    let a = is-yes (acceptable-is (c .before .before .before .before .before .before .before .before .before .before .before .before .before .before .before .before .before .before .before .before)) (c .before .before .before .before .before .before .before .before .before .before .before .before .before .before .before .before .before .before .before .if3 .left) in
-    c .before .before .before .before .before .before .before .before .before .before .before .before .carry-on .ensures ∙ rw (t .1) (sym (run-ran _ (lent s) (t .0) _ _ e l a))
+    let limit = is-yes (c .before .before .before .before .before .before .before .before .before .before .before .before .before .before .before .before .before .before .before .before .before .before .before .before .before .before .within-limit .ensures) (c .before .before .before .before .before .before .before .before .before .before .before .before .before .before .before .before .before .before .before .before .if2 .left) in
+    let held = is-yes (acceptable-is a) (c .before .before .before .before .before .before .before .before .before .before .before .before .before .before .before .before .before .before .before .if3 .left) in
+    c .before .before .before .before .before .before .before .before .before .before .before .before .carry-on .ensures ∙ rw (t .1) (sym (run-ran _ (lent (c .before .before .before .before .before .before .before .before .before .before .before .before .before .before .before .before .before .before .before .before .before .before .before .before .before .before .before .before .before .before .before .before .before .before .before .before .before .before .before .before)) (t .0) _ _ (is-enough a) limit held))
 
 pub run-on-spec : {M : Type 1} → statement M
 run-on-spec =
@@ -81,8 +85,12 @@ run-on-spec =
     (λ c κs. search needs)
     returns
     (λ c κs. search needs)
-    returns-2
     acceptable-requires
+    (λ c. search needs)
+    (λ c. search needs)
+    (λ c. search needs)
+    (λ c. search needs)
+    returns-2
     (λ c. search needs)
     (λ c. search needs)
     (λ c. search needs)
