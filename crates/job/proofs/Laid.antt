@@ -9,7 +9,7 @@ use lib.ListN.{length, getElem?, take}
 use lib.Seq.{take-all}
 use Rattle.job.specs.declared.pipes.Firsts.{Firsts}
 use Rattle.job.specs.Job.{Job, Pipe, laidFrom, laid, sectionsOf}
-use Rattle.job.specs.Format.{pipeCount, pipeIn, pipesIn, reachesOf, firstsOf}
+use Rattle.job.specs.Format.{pipeTable, pipeCount, pipeIn, pipesIn, reachesOf, firstsOf, jobOf}
 use Rattle.job.proofs.Listed.{length-listed, at-listed}
 
 -- one pipe more
@@ -88,3 +88,11 @@ module _ (pipes : List ℕ) where
   pub reach-least : (p : ℕ) → firstsOf pipes p .reach ≤ firstsOf pipes p .section
   unfolding firstsOf
   reach-least p = fewer (take p (pipesIn pipes))
+
+-- pipe p of a job, where `laid` has it
+pub laid-firsts :
+    (job : List ℕ) (p : ℕ) → p < pipeCount (pipeTable job)
+    → getElem? (laid (jobOf job)) p
+    ≡ some record { pipe = pipeIn (pipeTable job) p; first = firstsOf (pipeTable job) p .section; reach = firstsOf (pipeTable job) p .reach }
+unfolding jobOf firstsOf
+laid-firsts job p l = laid-at (jobOf job) p (pipeIn (pipeTable job) p) (pipe-at (pipeTable job) p l)
