@@ -1,41 +1,23 @@
 -- The sums of the nodes, one pipe at a time: a pipe's two ends are added to the sums of the pipes before it. Assumes nothing.
 use mathlib.Core.Path.{_≡_, refl, sym, ap, _∙_}
 use mathlib.Core.Bool.{Bool, true, false, cond}
-use mathlib.Core.List.{List, [], _∷_, _++_}
+use mathlib.Core.List.{List, [], _∷_}
+use mathlib.Core.Option.{some}
 use Prim.Native.Nat.{ℕ, zero, suc, _+_, _≤_, _<_}
 use native.Mathlib.Numerals.{add-one}
 use native.Mathlib.Omega.{arith}
 use lib.Dec.{eqb, eqb·zero-suc, eqb·suc-zero, eqb·suc-suc}
-use lib.ListN.{length, getD, set, replicate}
+use lib.ListN.{getD, getElem?, set, take, replicate}
 use lib.Ieee.{Float, nan}
 use borrow.Author.Tests.{eqb-true, eqb-false, eq-eqb, ne-eqb}
 use Rattle.fields.specs.Real.{_⊞_, zero64}
 use Rattle.wave.specs.Wave.{sumFrom, sumsOf}
-use Rattle.wave.proofs.SumsLaws.{sum-last}
 use Rattle.job.specs.Job.{Laid, laid}
 use Rattle.job.specs.Format.{listed, jobOf}
 use Rattle.recurrence.specs.Step.{inputs, along, kAtStart, kAtFinish, endsOf, sumsAt, headAt}
 use Rattle.recurrence.proofs.Listed.{getD-listed, listed-cong}
-use Rattle.march.specs.March.{withEnds, nodeSums, old, flowSums, constantSums, headBy}
-
--- one pipe more at the end of the list
-sum-with : (a b : Laid → Float) (y : ℕ) (x : Float) (ls : List Laid) (l : Laid)
-    → sumFrom x (endsOf a b y (ls ++ l ∷ [])) ≡ withEnds l (a l) (b l) y (sumFrom x (endsOf a b y ls))
-unfolding sumFrom endsOf
-sum-with a b y x [] l = go (eqb (l .pipe .start) y) (eqb (l .pipe .finish) y)
-  where
-    go : (s f : Bool) → sumFrom x (cond s (a l ∷ []) (cond f (b l ∷ []) [])) ≡ cond s (x ⊞ a l) (cond f (x ⊞ b l) x)
-    go true f = refl
-    go false true = refl
-    go false false = refl
-sum-with a b y x (k ∷ ks) l = go (eqb (k .pipe .start) y) (eqb (k .pipe .finish) y) (λ z. sum-with a b y z ks l)
-  where
-    go : (s f : Bool) → ((z : Float) → sumFrom z (endsOf a b y (ks ++ l ∷ [])) ≡ withEnds l (a l) (b l) y (sumFrom z (endsOf a b y ks)))
-        → sumFrom x (cond s (a k ∷ endsOf a b y (ks ++ l ∷ [])) (cond f (b k ∷ endsOf a b y (ks ++ l ∷ [])) (endsOf a b y (ks ++ l ∷ []))))
-        ≡ withEnds l (a l) (b l) y (sumFrom x (cond s (a k ∷ endsOf a b y ks) (cond f (b k ∷ endsOf a b y ks) (endsOf a b y ks))))
-    go true f ih = ih (x ⊞ a k)
-    go false true ih = ih (x ⊞ b k)
-    go false false ih = ih x
+use Rattle.recurrence.proofs.StepLaws.{withPipe, sum-next}
+use Rattle.march.specs.March.{nodeSums, old, flowSums, constantSums, headBy}
 
 -- a list given by a function, with one entry stored
 set-listed : {A : Type 0} (n : ℕ) (f : ℕ → A) (i : ℕ) (v : A) → set (listed n f) i v ≡ listed n (λ k. cond (eqb i k) v (f k))
@@ -45,11 +27,6 @@ set-listed (suc n) f zero v = ap (λ r. v ∷ r) (listed-cong n _ _ (λ k _. rw 
 set-listed (suc n) f (suc i) v =
     rw (eqb·suc-zero i)
     (ap (λ r. f 0 ∷ r) (set-listed n (λ k. f (suc k)) i v ∙ listed-cong n _ _ (λ k _. rw (eqb·suc-suc i k))))
-
-listed-last : {A : Type 0} (n : ℕ) (f : ℕ → A) → listed (suc n) f ≡ listed n f ++ f n ∷ []
-unfolding listed
-listed-last zero f = refl
-listed-last (suc n) f = ap (λ r. f 0 ∷ r) (listed-last n (λ k. f (suc k)))
 
 -- two ends apart, stored one after the other
 ends-apart : (g : ℕ → Float) (s f k : ℕ) (x y : Float) → eqb s f ≡ false
@@ -69,19 +46,19 @@ unfolding nodeSums endsOf sumFrom listed
 sums-none a b = refl
 
 -- with the ends of the next pipe l
-module _ (a b : Laid → Float) (f : ℕ → Laid) (p : ℕ) (l : Laid) (is : l ≡ f p) (low : (l .pipe .start < 32) × (l .pipe .finish < 32))
+module _ (a b : Laid → Float) (ls : List Laid) (p : ℕ) (l : Laid) (is : getElem? ls p ≡ some l) (low : (l .pipe .start < 32) × (l .pipe .finish < 32))
     (apart : eqb (l .pipe .start) (l .pipe .finish) ≡ false) where
-  pub sums-more : {sums : List Float} {x y : Float} → sums ≡ nodeSums a b (listed p f) → x ≡ a l → y ≡ b l
+  pub sums-more : {sums : List Float} {x y : Float} → sums ≡ nodeSums a b (take p ls) → x ≡ a l → y ≡ b l
       → set (set sums (l .pipe .start) (getD sums (l .pipe .start) nan ⊞ x)) (l .pipe .finish) (getD sums (l .pipe .finish) nan ⊞ y)
-      ≡ nodeSums a b (listed (p + 1) f)
-  unfolding nodeSums
+      ≡ nodeSums a b (take (p + 1) ls)
+  unfolding nodeSums withPipe
   sums-more {sums} {x} {y} e ex ey =
-      let g : ℕ → Float = λ k. sumFrom zero64 (endsOf a b k (listed p f)) in
+      let g : ℕ → Float = λ k. sumFrom zero64 (endsOf a b k (take p ls)) in
       let s = l .pipe .start in
       let t = l .pipe .finish in
       rw (e, getD-listed 32 g s nan (low .0), getD-listed 32 g t nan (low .1), set-listed 32 g s (g s ⊞ x))
       (set-listed 32 (λ k. cond (eqb s k) (g s ⊞ x) (g k)) t (g t ⊞ y)
-      ∙ listed-cong 32 _ _ (λ k _. ends-apart g s t k x y apart ∙ rw (add-one p, listed-last p f, ← is, ex, ey) (sym (sum-with a b k zero64 (listed p f) l))))
+      ∙ listed-cong 32 _ _ (λ k _. ends-apart g s t k x y apart ∙ rw (add-one p, ex, ey) (sym (sum-next a b k ls p l zero64 is))))
 
 -- the head of a node from the rows of sums is the recurrence's
 pub head-by-sums : (job : List ℕ) (n : ℕ) (heads flows : List Float) (y : ℕ) → y < 32

@@ -2,12 +2,16 @@
 use mathlib.Core.Path.{_≡_, refl, sym, ap, ap₂, _∙_}
 use mathlib.Core.Logic.{⊎-elim}
 use mathlib.Core.List.{List, [], _∷_}
+use mathlib.Core.Option.{some}
 use Prim.Native.Nat.{ℕ, zero, suc, _+_, _<_, _≤_}
 use native.Mathlib.Nat.{zero-add, le-of-suc-le-suc, eq-or-lt-of-le, not-suc-le-zero}
 use native.Mathlib.Omega.{arith}
+use lib.ListN.{getElem?, take}
+use lib.Seq.{take-all}
 use Rattle.job.specs.Job.{Job, Pipe, Laid, laidFrom, laid, sectionsOf, sections}
 use Rattle.job.specs.Format.{listed, jobOf, pipesIn, pipeTable, pipeCount, pipeIn, reachesOf}
-use Rattle.march.specs.March.{sectionsTo, reachesTo, laidIn, pipeOf}
+use Rattle.job.proofs.Listed.{length-listed, at-listed}
+use Rattle.march.specs.March.{sectionsTo, reachesTo, laidIn, pipeOf, LaidPipe}
 
 -- the count from pipe 1 on
 sections-front : (f : ℕ → Pipe) (p : ℕ) → sectionsTo f (suc p) ≡ suc (f 0 .reaches) + sectionsTo (λ k. f (suc k)) p
@@ -41,12 +45,19 @@ laid-from (suc n) f s r =
     let b : r + f 0 .reaches + reachesTo (λ k. f (suc k)) p ≡ r + reachesTo f (suc p) = omega (arith, reaches-front f p) in
     λ i. record { pipe = f (suc p); first = a i; reach = b i }))
 
-pub laid-listed : (job : List ℕ) → laid (jobOf job) ≡ listed (pipeCount (pipeTable job)) (laidIn (pipeOf job))
+laid-listed : (job : List ℕ) → laid (jobOf job) ≡ listed (pipeCount (pipeTable job)) (laidIn (pipeOf job))
 unfolding laid jobOf pipesIn
 laid-listed job =
     laid-from (pipeCount (pipeTable job)) (pipeOf job) 0 0
     ∙ listed-ext (pipeCount (pipeTable job)) _ _
     (λ p. λ i. record { pipe = pipeOf job p; first = zero-add (sectionsTo (pipeOf job) p) i; reach = zero-add (reachesTo (pipeOf job) p) i })
+
+pub laid-pipe : (job : List ℕ) (l : Laid) (is : LaidPipe job l) → getElem? (laid (jobOf job)) (is .number) ≡ some l
+laid-pipe job l is = rw (laid-listed job, is .is) (at-listed (pipeCount (pipeTable job)) (laidIn (pipeOf job)) (is .number) (is .present))
+
+-- all the pipes
+pub laid-all : (job : List ℕ) → take (pipeCount (pipeTable job)) (laid (jobOf job)) ≡ laid (jobOf job)
+laid-all job = take-all (pipeCount (pipeTable job)) (laid (jobOf job)) (rw (laid-listed job) (omega (arith, length-listed (pipeCount (pipeTable job)) (laidIn (pipeOf job)))))
 
 -- ---- the counts in all
 
@@ -81,15 +92,6 @@ unfolding reachesTo
 reaches-within f p zero h = absurd (not-suc-le-zero h)
 reaches-within f p (suc n) h =
     ⊎-elim (λ e. rw e (omega arith)) (λ o. omega (arith, reaches-within f p n o)) (eq-or-lt-of-le (le-of-suc-le-suc h))
-
--- one pipe more
-pub sections-more : (f : ℕ → Pipe) (p : ℕ) → sectionsTo f (suc p) ≡ sectionsTo f p + suc (f p .reaches)
-unfolding sectionsTo
-sections-more f p = refl
-
-pub reaches-more : (f : ℕ → Pipe) (p : ℕ) → reachesTo f (suc p) ≡ reachesTo f p + f p .reaches
-unfolding reachesTo
-reaches-more f p = refl
 
 pub fewer-reaches : (f : ℕ → Pipe) (p : ℕ) → reachesTo f p ≤ sectionsTo f p
 unfolding sectionsTo reachesTo

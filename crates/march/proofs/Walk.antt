@@ -1,15 +1,17 @@
 -- A walk over the pipes of an accepted job: it begins at section 0 and reach 0, and goes on past each pipe in turn. Assumes nothing.
 use mathlib.Core.Path.{_≡_, refl, ap, _∙_}
 use mathlib.Core.List.{List}
+use mathlib.Core.Option.{some}
 use Prim.Native.Nat.{ℕ, suc, _+_, _<_, _≤_}
 use native.Mathlib.Numerals.{add-one}
 use native.Mathlib.Omega.{arith}
-use Rattle.job.specs.Job.{Laid}
-use Rattle.job.specs.Format.{pipeTable, pipeCount}
+use lib.ListN.{getElem?}
+use Rattle.job.specs.Job.{Laid, laid}
+use Rattle.job.specs.Format.{jobOf, pipeTable, pipeCount}
 use Rattle.job.specs.Questions.{Accepted}
 use Rattle.march.specs.declared.laid.Laid as Code
 use Rattle.march.specs.March.{sectionsTo, reachesTo, laidIn, laidOf, pipeOf, LaidPipe, Walked}
-use Rattle.march.proofs.Order.{fewer-reaches}
+use Rattle.march.proofs.Order.{laid-pipe, fewer-reaches}
 use Rattle.march.proofs.Accept.{Within, within, few-sections}
 
 pub walk-none : (job : List ℕ) → Walked job 0 0 0
@@ -35,6 +37,10 @@ module _ (job : List ℕ) (p : ℕ) {first reach : ℕ} (w : Walked job p first 
   module _ (ok : Accepted job) (here : p < pipeCount (pipeTable job)) where
     pub walk-laid : LaidPipe job (laidOf l)
     walk-laid = record { number = p; present = here; is = is }
+
+    pub walk-listed : getElem? (laid (jobOf job)) p ≡ some (laidOf l)
+    unfolding walk-laid
+    walk-listed = laid-pipe job (laidOf l) walk-laid
 
     pub walk-within : Within job ok (laidOf l)
     walk-within = within job ok (laidOf l) walk-laid

@@ -2,12 +2,11 @@
 use mathlib.Core.Path.{_≡_, refl, sym, ap, _∙_}
 use mathlib.Core.Bool.{true, cond}
 use mathlib.Core.List.{List}
-use mathlib.Core.Option.{some}
 use Prim.Native.Nat.{ℕ, zero, suc, _+_, _-_, _≤_, _<_}
 use native.Mathlib.Nat.{zero-add}
 use native.Mathlib.Omega.{arith}
 use lib.Dec.{eqb}
-use lib.ListN.{getD, getElem?, set, replicate}
+use lib.ListN.{getD, set, replicate}
 use lib.Ieee.{Float, nan}
 use borrow.Author.Tests.{eq-eqb, ne-eqb}
 use Rattle.fields.specs.Real.{zero64}
@@ -16,14 +15,13 @@ use Rattle.loops.proofs.Fill.{fill-step, fill-in}
 use Rattle.wave.specs.declared.HeadFlow.{HeadFlow}
 use Rattle.wave.specs.Wave.{startEnd, finishEnd}
 use Rattle.job.specs.Job.{Laid, laid}
-use Rattle.job.specs.Format.{jobOf, pipeTable, nodeTable, pipeCount, nodeCount}
+use Rattle.job.specs.Format.{jobOf, nodeTable, nodeCount}
 use Rattle.job.specs.Questions.{Accepted}
-use Rattle.job.proofs.Listed.{at-listed}
 use Rattle.recurrence.specs.State.{State}
 use Rattle.recurrence.specs.Step.{Inputs, inputs, along, kAtStart, kAtFinish, headAt, located, atStart, atFinish, cpAfter, cmBefore, between, newIn, newAt}
 use Rattle.recurrence.proofs.Laying.{laid-located}
-use Rattle.march.specs.March.{laidIn, pipeOf, LaidPipe, old, nodeHeads, newBy, newInPipe, newSection}
-use Rattle.march.proofs.Order.{laid-listed}
+use Rattle.march.specs.March.{LaidPipe, old, nodeHeads, newBy, newInPipe, newSection}
+use Rattle.march.proofs.Order.{laid-pipe}
 use Rattle.march.proofs.Accept.{Within, within, few-nodes}
 use Rattle.march.proofs.Filling.{fill-cong, fill-on, fill-front}
 
@@ -70,9 +68,6 @@ module _ (job : List ℕ) (ok : Accepted job) (n : ℕ) (heads flows : List Floa
     lies : Within job ok l
     lies = within job ok l is
 
-    is-listed : getElem? (laid (jobOf job)) (is .number) ≡ some l
-    is-listed = rw (laid-listed job, is .is) (at-listed (pipeCount (pipeTable job)) (laidIn (pipeOf job)) (is .number) (is .present))
-
     by-nodes : (i : ℕ) → newInPipe job (nodeHeads job n heads flows) heads flows l i ≡ newIn (laid (jobOf job)) (inputs (jobOf job) n) (old job heads flows) l i
     unfolding newBy newIn atStart atFinish between kAtStart kAtFinish cpAfter cmBefore along inputs
     by-nodes zero = rw (node-read (l .pipe .start) (lies .joined .start-present))
@@ -80,7 +75,7 @@ module _ (job : List ℕ) (ok : Accepted job) (n : ℕ) (heads flows : List Floa
 
     pub in-pipe : (i : ℕ) → i ≤ l .pipe .reaches → newInPipe job (nodeHeads job n heads flows) heads flows l i ≡ newSection job n heads flows (l .first + i)
     unfolding newSection newAt
-    in-pipe i h = by-nodes i ∙ rw (laid-located (jobOf job) (is .number) l i is-listed h)
+    in-pipe i h = by-nodes i ∙ rw (laid-located (jobOf job) (is .number) l i (laid-pipe job l is) h)
 
     -- the sections up to this pipe, and then the pipe's own, for the heads or for the flows
     pub pipe-more :

@@ -6,7 +6,7 @@ use Prim.Native.Nat.{ℕ, zero, suc, _+_, _≤_, _<_}
 use lib.Dec.{eqb}
 use lib.ListN.{length, getD, replicate}
 use lib.Ieee.{Float, nan}
-use Rattle.fields.specs.Real.{_⊞_, zero64}
+use Rattle.fields.specs.Real.{zero64}
 use Rattle.loops.specs.Loops.{fill}
 use Rattle.wave.specs.declared.Sums.{Sums}
 use Rattle.wave.specs.declared.HeadFlow.{HeadFlow}
@@ -68,10 +68,6 @@ pub record Lent (job : List ℕ) (heads flows : List Float) : Type 0 where
   pub flows-long : sections (jobOf job) ≤ length flows
 
 -- ---- the nodes' sums and heads, in rows of 32
-
--- a sum of node y with what a pipe gives at its ends
-abbrev pub withEnds : Laid → Float → Float → ℕ → Float → Float
-withEnds l atStart atFinish y x = cond (eqb (l .pipe .start) y) (x ⊞ atStart) (cond (eqb (l .pipe .finish) y) (x ⊞ atFinish) x)
 
 unfoldable pub nodeSums : (Laid → Float) → (Laid → Float) → List Laid → List Float
 nodeSums atStart atFinish ls = listed 32 (λ y. sumFrom zero64 (endsOf atStart atFinish y ls))

@@ -18,7 +18,7 @@ fn friction_at(job: &[u8], r: usize) -> f64
     requires { ⌜ (Accepted (now job)) × (r < reachesTo (pipeOf (now job)) (pipeCount (pipeTable (now job)))) ⌝ }
     ensures { λ x. ⌜ x ≡ frictionAt (jobOf (now (job .entry))) r ⌝ }
 {
-    fields::f64_at(job::pairs::table(job, 2), r * 8)
+    job::values::r_at(job::pairs::table(job, 2), r)
 }
 
 // K at a pipe's start, by its section 1.

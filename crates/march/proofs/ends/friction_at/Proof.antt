@@ -1,28 +1,25 @@
 -- `march::ends::friction_at` meets its contract. Assumes nothing.
-use mathlib.Core.Path.{_≡_, sym, _∙_}
+use mathlib.Core.Path.{_≡_, _∙_}
 use native.Mathlib.Omega.{arith}
 use borrow.Author.Needs.{needs}
-use Rattle.fields.specs.Bytes.{finiteAt}
-use Rattle.march.proofs.Accept.{pairs-accepted, few-reaches, friction-in, friction-finite, friction-read}
+use Rattle.job.specs.Job.{frictionAt}
+use Rattle.job.specs.Format.{jobOf}
+use Rattle.job.proofs.Accepted.{friction-fits}
+use Rattle.march.proofs.Accept.{pairs-accepted, friction-long}
 use Rattle.march.proofs.ends.friction_at.Statement.{statement}
 use Rattle.march.proofs.ends.friction_at.Tie as tie
 
 table-requires : tie.Need-table-requires
 table-requires c κs = (pairs-accepted _ (c .before .pre .0), search needs)
 
-mul-f64-at : tie.Need-mul-f64-at
-mul-f64-at c = omega (arith, few-reaches _ (c .before .before .pre .0))
-
-f64-at-requires : tie.Need-f64-at-requires
-unfolding finiteAt
-f64-at-requires c κs =
+r-at-requires : tie.Need-r-at-requires
+r-at-requires c κs =
     let pre = c .before .before .pre in
-    rw (c .table .ensures) (friction-in _ (pre .0) _ (pre .1), friction-finite _ (pre .0) _ (pre .1))
+    rw (c .table .ensures) (friction-fits _ (pre .0), omega (arith, friction-long _ (pre .0)))
 
 returns : tie.Need-returns
-returns c =
-    let pre = c .before .before .before .pre in
-    c .f64-at .ensures ∙ rw (c .before .table .ensures) (sym (friction-read _ (pre .0) _ (pre .1)))
+unfolding frictionAt jobOf
+returns c = c .r-at .ensures ∙ rw (c .before .table .ensures)
 
 pub friction-at-spec : {M : Type 1} → statement M
-friction-at-spec = tie.close (tie.spec table-requires mul-f64-at f64-at-requires returns)
+friction-at-spec = tie.close (tie.spec table-requires r-at-requires returns)

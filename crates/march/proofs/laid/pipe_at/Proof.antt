@@ -1,6 +1,7 @@
 -- `march::laid::pipe_at` meets its contract: each field is read from the pipe's own record. Assumes nothing.
 use borrow.Author.Needs.{needs}
-use Rattle.march.proofs.Accept.{pairs-accepted, constant-finite}
+use Rattle.job.proofs.Accepted.{constant-fits}
+use Rattle.march.proofs.Accept.{pairs-accepted}
 use Rattle.march.proofs.laid.pipe_at.Statement.{statement}
 use Rattle.march.proofs.laid.pipe_at.Tie as tie
 
@@ -19,7 +20,7 @@ reaches-requires c κs = start-requires (c .before .before) κs
 constant-requires : tie.Need-constant-requires
 constant-requires c κs =
     let pre = c .before .before .before .before .before .pre in
-    rw (c .before .before .before .table .ensures) (pre .0 .1, constant-finite _ (pre .0 .0) _ (pre .0 .1))
+    rw (c .before .before .before .table .ensures) (pre .0 .1, constant-fits _ (pre .0 .0) _ (pre .0 .1) .0)
 
 returns : tie.Need-returns
 returns c =
