@@ -8,7 +8,7 @@ use lib.Dec.{eqb}
 use lib.ListN.{getElem?}
 use lib.Ieee.{Float}
 use borrow.Author.Tests.{eqb-true, eqb-false}
-use Rattle.wave.specs.Wave.{sumsOf}
+use Rattle.wave.specs.Wave.{fromAbove, fromBelow, finishK, startK}
 use Rattle.job.specs.Job.{Laid}
 use Rattle.recurrence.specs.State.{State, pointAt}
 use Rattle.recurrence.specs.Step.{Inputs, along, cpAfter, cmBefore, kAtFinish, kAtStart, endsOf, sumsAt, headAt, located, Place, place, nowhere, atFinish, atStart, between, newIn, newAt, newPoint}
@@ -55,11 +55,11 @@ module _ (ls : List Laid) (f g : Inputs) (u v : State) (near : ℕ → Type 0) (
 
   start-k : (p : ℕ) (l : Laid) (s : ℕ) → getElem? ls p ≡ some l → s ≡ l .first → near s → kAtStart f u l ≡ kAtStart g v l
   unfolding kAtStart
-  start-k p l s e q n = let w = c .whole p l e in below _ p l 0 s e (omega arith) (omega arith) n
+  start-k p l s e q n = let w = c .whole p l e in below startK p l 0 s e (omega arith) (omega arith) n
 
   finish-k : (p : ℕ) (l : Laid) (s : ℕ) → getElem? ls p ≡ some l → s ≡ l .first + l .pipe .reaches → near s → kAtFinish f u l ≡ kAtFinish g v l
   unfolding kAtFinish
-  finish-k p l s e q n = let w = c .whole p l e in above _ p l (pred (l .pipe .reaches)) s e (omega arith) (omega arith) n
+  finish-k p l s e q n = let w = c .whole p l e in above finishK p l (pred (l .pipe .reaches)) s e (omega arith) (omega arith) n
 
   sums-alike : (y s : ℕ) → near s → EndAt ls y s → sumsAt ls f u y ≡ sumsAt ls g v y
   unfolding sumsAt
@@ -88,7 +88,7 @@ module _ (ls : List Laid) (f g : Inputs) (u v : State) (near : ℕ → Type 0) (
       let q : s ≡ l .first + l .pipe .reaches = omega arith in
       cc (finish-k p l s (h .listed) q n, head-alike (l .pipe .finish) s n (finishesAt p l (h .listed) refl q)))
       (λ t. let r : ¬ (suc i ≡ l .pipe .reaches) = eqb-false _ _ t in
-      cc (above _ p l i s (h .listed) (omega arith) (h .stands) n, below _ p l (suc i) s (h .listed) (omega arith) (h .stands) n))
+      cc (above fromAbove p l i s (h .listed) (omega arith) (h .stands) n, below fromBelow p l (suc i) s (h .listed) (omega arith) (h .stands) n))
 
   new-at : (o : Place) (s : ℕ) → near s → FoundAt ls s o → newAt ls f u o ≡ newAt ls g v o
   unfolding newAt

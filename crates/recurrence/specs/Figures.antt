@@ -6,7 +6,7 @@ use lib.ListN.{getD, set, take, replicate}
 use lib.Ieee.{Float, neg}
 use Rattle.fields.specs.Real.{zero64, infinity64}
 use Rattle.root.specs.Figures.{P10}
-use Rattle.wave.specs.Figures.{BenchFigures, num, halved, power, bits}
+use Rattle.wave.specs.Figures.{BenchFigures, _is_, num}
 use Rattle.job.specs.Job.{Job, Pipe, Kind, junction, reservoir, valve, ScheduledNode, Initial}
 use Rattle.job.proofs.Figures.{jobQ, jobOfAllKinds}
 use Rattle.recurrence.specs.State.{Point, State, startState}
@@ -43,7 +43,6 @@ unfoldable pub lentSevens : Rows
 lentSevens = let row = replicate 4 (num 7) in sixRows row row row row row row
 
 -- a start in such rows, and a run-on of N steps
-
 unfoldable pub ranOn : List ℕ → ℕ → Called
 ranOn job N = runOnCall job 0 N (startCall job lentSevens .rows)
 
@@ -57,11 +56,11 @@ done m = record { number = 0; steps = m; section = 0 }
 
 pub record BenchTable : Type 0 where
   -- "job Q, step 2: section 1 has head 14, flow 0"
-  pub p1-head : getD (ranOn jobQ 2 .rows .heads) 1 zero64 ≡ num 14
-  pub p1-flow : getD (ranOn jobQ 2 .rows .flows) 1 zero64 ≡ num 0
+  pub p1-head : getD (ranOn jobQ 2 .rows .heads) 1 zero64 is num 14
+  pub p1-flow : getD (ranOn jobQ 2 .rows .flows) 1 zero64 is num 0
   -- "step 3: section 0 flow -4", "step 5: section 2 head 6"
-  pub p2 : getD (ranOn jobQ 3 .rows .flows) 0 zero64 ≡ neg (num 4)
-  pub p3 : getD (ranOn jobQ 5 .rows .heads) 2 zero64 ≡ num 6
+  pub p2 : getD (ranOn jobQ 3 .rows .flows) 0 zero64 is neg (num 4)
+  pub p3 : getD (ranOn jobQ 5 .rows .heads) 2 zero64 is num 6
   pub p4-to-p9 : BenchFigures
   pub p10 : P10
   -- "Edges: .. a head on its floor runs on; m = 1,000,000 passes with N = 0 only."

@@ -23,16 +23,32 @@ row x y z = x ∷ y ∷ z ∷ num 7 ∷ []
 abbrev pub cleared : List Float
 cleared = row (num 0) (num 0) (num 0)
 
+-- rows compared by their bits, and what a call leaves and answers by the bits of the six rows
+abbrev pub patterns : List Float → List ℕ
+patterns xs = map (toBits binary64) xs
+
+infix 50 _are_ _leaves_
+abbrev pub _are_ : List Float → List Float → Type 0
+xs are ys = patterns xs ≡ patterns ys
+
+abbrev pub shown : Called → List (List ℕ)
+shown c =
+    patterns (c .rows .heads) ∷ patterns (c .rows .flows) ∷ patterns (c .rows .highest) ∷ patterns (c .rows .lowest)
+    ∷ patterns (c .rows .spareHeads) ∷ patterns (c .rows .spareFlows) ∷ (c .answer .number ∷ c .answer .steps ∷ c .answer .section ∷ []) ∷ []
+
+abbrev pub _leaves_ : Called → Called → Type 0
+c leaves d = shown c ≡ shown d
+
 pub record RowFigures : Type 0 where
-  pub start : startCall jobQ lentSevens ≡ record { rows = sixRows (row (num 10) (num 10) (num 10)) (row (num 4) (num 4) (num 4)) (row (num 10) (num 10) (num 10)) (row (num 10) (num 10) (num 10)) cleared cleared; answer = done 0 }
+  pub start : startCall jobQ lentSevens leaves record { rows = sixRows (row (num 10) (num 10) (num 10)) (row (num 4) (num 4) (num 4)) (row (num 10) (num 10) (num 10)) (row (num 10) (num 10) (num 10)) cleared cleared; answer = done 0 }
   -- document 01's listing of job Q
-  pub one-step : ranOn jobQ 1 ≡ record { rows = sixRows (row (num 10) (num 10) (num 14)) (row (num 4) (num 4) (num 0)) (row (num 10) (num 10) (num 14)) (row (num 10) (num 10) (num 10)) cleared cleared; answer = done 1 }
+  pub one-step : ranOn jobQ 1 leaves record { rows = sixRows (row (num 10) (num 10) (num 14)) (row (num 4) (num 4) (num 0)) (row (num 10) (num 10) (num 14)) (row (num 10) (num 10) (num 10)) cleared cleared; answer = done 1 }
   -- the minimum is lowered
-  pub five-steps : ranOn jobQ 5 ≡ record { rows = sixRows (row (num 10) (num 10) (num 6)) (row (neg (num 4)) (neg (num 4)) (num 0)) (row (num 10) (num 14) (num 14)) (row (num 10) (num 10) (num 6)) cleared cleared; answer = done 5 }
+  pub five-steps : ranOn jobQ 5 leaves record { rows = sixRows (row (num 10) (num 10) (num 6)) (row (neg (num 4)) (neg (num 4)) (num 0)) (row (num 10) (num 14) (num 14)) (row (num 10) (num 10) (num 6)) cleared cleared; answer = done 5 }
   -- a stop at the fifth step leaves the fourth's state and envelopes
-  pub stop : ranOn jobQOnFloor 9 ≡ record { rows = sixRows (row (num 10) (num 10) (num 14)) (row (neg (num 4)) (neg (num 4)) (num 0)) (row (num 10) (num 14) (num 14)) (row (num 10) (num 10) (num 10)) cleared cleared; answer = record { number = 41; steps = 4; section = 2 } }
+  pub stop : ranOn jobQOnFloor 9 leaves record { rows = sixRows (row (num 10) (num 10) (num 14)) (row (neg (num 4)) (neg (num 4)) (num 0)) (row (num 10) (num 14) (num 14)) (row (num 10) (num 10) (num 10)) cleared cleared; answer = record { number = 41; steps = 4; section = 2 } }
   -- no step: the spare rows are cleared
-  pub no-step : runOnCall jobQ 3 0 lentSevens ≡ record { rows = record { heads = lentSevens .heads; flows = lentSevens .flows; highest = lentSevens .highest; lowest = lentSevens .lowest; spareHeads = cleared; spareFlows = cleared }; answer = done 3 }
+  pub no-step : runOnCall jobQ 3 0 lentSevens leaves record { rows = record { heads = lentSevens .heads; flows = lentSevens .flows; highest = lentSevens .highest; lowest = lentSevens .lowest; spareHeads = cleared; spareFlows = cleared }; answer = done 3 }
 
 -- ---- refusals: the rows as they were, and the number alone
 
@@ -51,23 +67,23 @@ abbrev pub withHead : Float → Rows
 withHead x = sixRows (set long 2 x) long long long long long
 
 pub record RefusalFigures : Type 0 where
-  pub short-heads : runOnCall jobQ 0 1 (sixRows short long long long long long) ≡ refusedBy 20 (sixRows short long long long long long)
-  pub short-flows : runOnCall jobQ 0 1 (sixRows long short long long long long) ≡ refusedBy 20 (sixRows long short long long long long)
-  pub short-highest : runOnCall jobQ 0 1 (sixRows long long short long long long) ≡ refusedBy 20 (sixRows long long short long long long)
-  pub short-lowest : runOnCall jobQ 0 1 (sixRows long long long short long long) ≡ refusedBy 20 (sixRows long long long short long long)
-  pub short-spare-heads : runOnCall jobQ 0 1 (sixRows long long long long short long) ≡ refusedBy 20 (sixRows long long long long short long)
-  pub short-spare-flows : runOnCall jobQ 0 1 (sixRows long long long long long short) ≡ refusedBy 20 (sixRows long long long long long short)
-  pub short-start : startCall jobQ (sixRows long long long long long short) ≡ refusedBy 20 (sixRows long long long long long short)
+  pub short-heads : runOnCall jobQ 0 1 (sixRows short long long long long long) leaves refusedBy 20 (sixRows short long long long long long)
+  pub short-flows : runOnCall jobQ 0 1 (sixRows long short long long long long) leaves refusedBy 20 (sixRows long short long long long long)
+  pub short-highest : runOnCall jobQ 0 1 (sixRows long long short long long long) leaves refusedBy 20 (sixRows long long short long long long)
+  pub short-lowest : runOnCall jobQ 0 1 (sixRows long long long short long long) leaves refusedBy 20 (sixRows long long long short long long)
+  pub short-spare-heads : runOnCall jobQ 0 1 (sixRows long long long long short long) leaves refusedBy 20 (sixRows long long long long short long)
+  pub short-spare-flows : runOnCall jobQ 0 1 (sixRows long long long long long short) leaves refusedBy 20 (sixRows long long long long long short)
+  pub short-start : startCall jobQ (sixRows long long long long long short) leaves refusedBy 20 (sixRows long long long long long short)
   -- three entries are enough for three sections
   pub just-enough : runOnCall jobQ 0 0 (let r = replicate 3 (num 7) in sixRows r r r r r r) .answer ≡ done 0
   -- question 21
-  pub m-too-great : runOnCall jobQ 1_000_001 0 lentSevens ≡ refusedBy 21 lentSevens
-  pub N-too-great : runOnCall jobQ 0 1_000_001 lentSevens ≡ refusedBy 21 lentSevens
-  pub both-too-great : runOnCall jobQ 999_999 2 lentSevens ≡ refusedBy 21 lentSevens
+  pub m-too-great : runOnCall jobQ 1_000_001 0 lentSevens leaves refusedBy 21 lentSevens
+  pub N-too-great : runOnCall jobQ 0 1_000_001 lentSevens leaves refusedBy 21 lentSevens
+  pub both-too-great : runOnCall jobQ 999_999 2 lentSevens leaves refusedBy 21 lentSevens
   pub both-great : runOnCall jobQ 999_999 1 lentSevens .answer ≡ done 1_000_000
   -- question 22: each row, and the floor; past the section count nothing is asked
-  pub head-not-finite : runOnCall jobQ 0 0 (withHead nan) ≡ refusedBy 22 (withHead nan)
-  pub head-below-floor : runOnCall jobQ 0 0 (withHead (neg (num 1))) ≡ refusedBy 22 (withHead (neg (num 1)))
+  pub head-not-finite : runOnCall jobQ 0 0 (withHead nan) leaves refusedBy 22 (withHead nan)
+  pub head-below-floor : runOnCall jobQ 0 0 (withHead (neg (num 1))) leaves refusedBy 22 (withHead (neg (num 1)))
   pub head-on-floor : runOnCall jobQ 0 0 (withHead (neg (num 0))) .answer ≡ done 0
   pub flow-not-finite : runOnCall jobQ 0 0 (sixRows long (set long 2 infinity64) long long long long) .answer ≡ refusal 22
   pub highest-not-finite : runOnCall jobQ 0 0 (sixRows long long (set long 2 infinity64) long long long) .answer ≡ refusal 22
@@ -75,8 +91,8 @@ pub record RefusalFigures : Type 0 where
   pub spare-not-asked : runOnCall jobQ 0 0 (sixRows long long long long (set long 2 nan) long) .answer ≡ done 0
   pub past-the-count : runOnCall jobQ 0 0 (let r = set long 3 nan in sixRows r r r r r r) .answer ≡ done 0
   -- "The first no decides": 1 to 15, 20, 21, 22
-  pub fifteen-before-20 : runOnCall jobQTooOpen 0 1 (sixRows short long long long long long) ≡ refusedBy 15 (sixRows short long long long long long)
-  pub fifteen-before-20-start : startCall jobQTooOpen (sixRows short long long long long long) ≡ refusedBy 15 (sixRows short long long long long long)
+  pub fifteen-before-20 : runOnCall jobQTooOpen 0 1 (sixRows short long long long long long) leaves refusedBy 15 (sixRows short long long long long long)
+  pub fifteen-before-20-start : startCall jobQTooOpen (sixRows short long long long long long) leaves refusedBy 15 (sixRows short long long long long long)
   pub one-before-20 : startCall (take 45 jobQ) (sixRows short long long long long long) .answer ≡ refusal 1
   pub twenty-before-21 : runOnCall jobQ 1_000_001 0 (sixRows short long long long long long) .answer ≡ refusal 20
   pub twenty-one-before-22 : runOnCall jobQ 1_000_001 0 (withHead nan) .answer ≡ refusal 21
@@ -170,11 +186,11 @@ lowest p = p .lowest
 
 pub record StepFigures : Type 0 where
   -- the valve moves at step 2, not before, and stays: entry n at step n, the last afterwards
-  pub closing-1 : ranOn jobQClosing 1 .rows .heads ≡ row (num 10) (num 10) (num 10)
-  pub closing-2 : ranOn jobQClosing 2 .rows .heads ≡ row (num 10) (num 10) (num 14)
-  pub closing-3 : ranOn jobQClosing 3 .rows .heads ≡ row (num 10) (num 14) (num 14)
+  pub closing-1 : ranOn jobQClosing 1 .rows .heads are row (num 10) (num 10) (num 10)
+  pub closing-2 : ranOn jobQClosing 2 .rows .heads are row (num 10) (num 10) (num 14)
+  pub closing-3 : ranOn jobQClosing 3 .rows .heads are row (num 10) (num 14) (num 14)
   -- and a run-on with m = 1 begins at step 2
-  pub closing-from-1 : runOnCall jobQClosing 1 1 (startCall jobQClosing lentSevens .rows) .rows .heads ≡ row (num 10) (num 10) (num 14)
+  pub closing-from-1 : runOnCall jobQClosing 1 1 (startCall jobQClosing lentSevens .rows) .rows .heads are row (num 10) (num 10) (num 14)
   -- R of each reach, S of each pipe, each kind's value of the step
   pub heads-1 : after twoPipes 1 head ≡ 0x4028_0000_0000_0000 ∷ 0x4020_aaaa_aaaa_aaab ∷ 0x4020_aaaa_aaaa_aaab ∷ 0x4021_0000_0000_0000 ∷ 0x400a_0000_0000_0000 ∷ 0x400b_0e44_3234_05ac ∷ []
   pub flows-1 : after twoPipes 1 flow ≡ 0x400e_0000_0000_0000 ∷ 0x3ffa_aaaa_aaaa_aaa8 ∷ 0x3ff2_aaaa_aaaa_aab0 ∷ 0x3ff0_0000_0000_0000 ∷ 0x4023_0000_0000_0000 ∷ 0x3ff3_c6ef_372f_e950 ∷ []
