@@ -1,6 +1,4 @@
 -- `listing::line` meets its contract: the part is as long as the text that was written, and begins where the slice does. Assumes nothing.
-use mathlib.Core.Path.{ap}
-use Prim.Native.Nat.{ℕ}
 use native.Mathlib.Nat.{zero-add}
 use borrow.Author.Needs.{needs}
 use Rattle.listing.proofs.Stores.{front-within, front-part}

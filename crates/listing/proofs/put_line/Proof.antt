@@ -1,7 +1,6 @@
 -- `listing::put_line` meets its contract: the number, of at most three digits, and behind it the values. Assumes nothing.
 use Prim.Native.Nat.{_≤_}
 use native.Mathlib.Omega.{arith}
-use borrow.Author.Needs.{needs}
 use Rattle.listing.specs.Text.{places}
 use Rattle.listing.proofs.Digits.{places-bound}
 use Rattle.listing.proofs.Stores.{joined, kept}

@@ -7,7 +7,6 @@ use native.Mathlib.Omega.{arith}
 use borrow.Author.Needs.{needs}
 use lib.ListN.{length, length-set}
 use lib.Seq.{sets}
-use denote.Ref.{now}
 use Rattle.listing.specs.Text.{digits}
 use Rattle.listing.proofs.Digits.{length-digits, lowest-first}
 use Rattle.listing.proofs.text.put_digits.Statement.{statement}

@@ -1,7 +1,6 @@
 -- `listing::text::put_number` meets its contract: a space, and behind it the number, of at most 20 digits. Assumes nothing.
 use Prim.Native.Nat.{_≤_}
 use native.Mathlib.Omega.{arith}
-use borrow.Author.Needs.{needs}
 use lib.ListN.{length-set}
 use Rattle.listing.specs.Text.{places}
 use Rattle.listing.proofs.Digits.{places-word}
