@@ -1,12 +1,11 @@
 -- `surgelist::print_listing` is safe: the text lies within its buffer. Assumes nothing.
-use native.Mathlib.Omega.{arith}
 use borrow.Author.Needs.{needs}
-use Rattle.surgelist.proofs.Within.{within}
+use Rattle.listing.proofs.Stores.{front-within}
 use Rattle.surgelist.proofs.print_listing.Statement.{statement}
 use Rattle.surgelist.proofs.print_listing.Tie as tie
 
 part-write-all-end : tie.Need-part-write-all-end
-part-write-all-end c = within _ _ _ _ (c .before .before .write-listing .ensures)
+part-write-all-end c = front-within (c .before .before .write-listing .ensures)
 
 pub print-listing-spec : {M : Type 1} → statement M
 print-listing-spec =
