@@ -1,0 +1,115 @@
+// The calls of Vintuqay for programs in C: the same contracts as in Rattle, each answer one number.
+// docs/src/c/vintuqay.h declares them.
+ghost use mathlib.Core.Path.{_≡_};
+ghost use Prim.Native.Nat.{ℕ};
+ghost use lib.ListN.{length};
+ghost use Rattle.root.specs.Root.{rootOf};
+ghost use Rattle.job.specs.Answer.{readAnswer};
+ghost use Rattle.recurrence.specs.Calls.{startCall, runOnCall};
+ghost use Rattle.surge.specs.Answers.{paperAnswer, six};
+ghost use Rattle.listing.specs.Listing.{lineWritten, AtFront};
+ghost use Rattle.c_interface.specs.Packed.{packed, packedAnswer, packedRead};
+use job::Read;
+use surge::Answer;
+
+// A number, a section and steps in one.
+fn pack(number: usize, section: usize, steps: u64) -> u64
+    ensures { λ r. ⌜ r ≡ packed number section steps ⌝ }
+{
+    let low = (number % 256) as u64;
+    let middle = (section % 4096) as u64;
+    low + 256 * middle + 1048576 * (steps % 4294967296)
+}
+
+// The answer of the start and the run-on as one number.
+fn pack_answer(answer: Answer) -> u64
+    ensures { λ r. ⌜ r ≡ packedAnswer (paperAnswer answer) ⌝ }
+{
+    match answer {
+        Answer::Refused(q) => pack(q, 0, 0),
+        Answer::Done(m) => pack(0, 0, m),
+        Answer::NotFinite(m, s) => pack(40, s, m),
+        Answer::Parted(m, s) => pack(41, s, m),
+    }
+}
+
+// The root; a NaN where question 23 has a no.
+#[no_mangle]
+pub extern "C" fn vintuqay_root(x: f64) -> f64
+    ensures { λ r. ⌜ r ≡ rootOf x ⌝ }
+{
+    root::root_of(x)
+}
+
+// Questions 1 to 15.
+#[no_mangle]
+pub extern "C" fn vintuqay_read(job: &[u8]) -> u64
+    ensures { λ r. ⌜ r ≡ packedRead (readAnswer (now (job .entry))) ⌝ }
+{
+    let read = job::read(job);
+    match read {
+        Read::Refused(q) => pack(q, 0, 0),
+        Read::Accepted { sections, steps } => pack(0, sections, steps as u64),
+    }
+}
+
+// The start.
+#[no_mangle]
+pub extern "C" fn vintuqay_start(
+    job: &[u8],
+    heads: &mut [f64],
+    flows: &mut [f64],
+    highest: &mut [f64],
+    lowest: &mut [f64],
+    spare_heads: &mut [f64],
+    spare_flows: &mut [f64],
+) -> u64
+    ensures { λ r. ⌜ r ≡ packedAnswer (startCall (now (job .entry)) (six (now (heads .entry)) (now (flows .entry)) (now (highest .entry)) (now (lowest .entry)) (now («spare_heads» .entry)) (now («spare_flows» .entry))) .answer) ⌝ }
+    ensures { λ _. ⌜ six (now (heads .exit)) (now (flows .exit)) (now (highest .exit)) (now (lowest .exit)) (now («spare_heads» .exit)) (now («spare_flows» .exit)) ≡ startCall (now (job .entry)) (six (now (heads .entry)) (now (flows .entry)) (now (highest .entry)) (now (lowest .entry)) (now («spare_heads» .entry)) (now («spare_flows» .entry))) .rows ⌝ }
+{
+    pack_answer(surge::start(job, heads, flows, highest, lowest, spare_heads, spare_flows))
+}
+
+// The run-on: m is `done`, N is `count`.
+#[no_mangle]
+pub extern "C" fn vintuqay_run_on(
+    job: &[u8],
+    done: u64,
+    count: u64,
+    heads: &mut [f64],
+    flows: &mut [f64],
+    highest: &mut [f64],
+    lowest: &mut [f64],
+    spare_heads: &mut [f64],
+    spare_flows: &mut [f64],
+) -> u64
+    ensures { λ r. ⌜ r ≡ packedAnswer (runOnCall (now (job .entry)) done count (six (now (heads .entry)) (now (flows .entry)) (now (highest .entry)) (now (lowest .entry)) (now («spare_heads» .entry)) (now («spare_flows» .entry))) .answer) ⌝ }
+    ensures { λ _. ⌜ six (now (heads .exit)) (now (flows .exit)) (now (highest .exit)) (now (lowest .exit)) (now («spare_heads» .exit)) (now («spare_flows» .exit)) ≡ runOnCall (now (job .entry)) done count (six (now (heads .entry)) (now (flows .entry)) (now (highest .entry)) (now (lowest .entry)) (now («spare_heads» .entry)) (now («spare_flows» .entry))) .rows ⌝ }
+{
+    pack_answer(surge::run_on(
+        job,
+        done,
+        count,
+        heads,
+        flows,
+        highest,
+        lowest,
+        spare_heads,
+        spare_flows,
+    ))
+}
+
+// The line of a section at the front of `out`, as the count of its bytes; 0 for question 24's no.
+#[no_mangle]
+pub extern "C" fn vintuqay_line(
+    section: usize,
+    head: f64,
+    flow: f64,
+    highest: f64,
+    lowest: f64,
+    out: &mut [u8],
+) -> usize
+    ensures { λ r. ⌜ AtFront (lineWritten section head flow highest lowest (length (now (out .entry)))) (now (out .entry)) r (now (out .exit)) ⌝ }
+{
+    listing::write_line(section, head, flow, highest, lowest, out)
+}

@@ -1,0 +1,93 @@
+/* Starts job Q of document 01, runs it on to step 5 one step a call, and prints its heads after each
+ * step, then the listing's line of each section. */
+#include "vintuqay.h"
+#include <stdio.h>
+#include <string.h>
+
+enum { SECTIONS = 3, JOB = 46 + 12 + 2 * 26 + 2 * 8 + SECTIONS * 24 + 2 * 8 };
+
+static uint8_t job[JOB];
+static size_t used;
+
+/* Little-endian, `width` bytes of n. */
+static void put(uint64_t n, int width) {
+    for (int i = 0; i < width; i++)
+        job[used++] = (uint8_t)(n >> 8 * i);
+}
+
+static void put_double(double x) {
+    uint64_t bits;
+    memcpy(&bits, &x, sizeof bits);
+    put(bits, 8);
+}
+
+static void put_node(int kind, double a, double b) {
+    put((uint64_t)kind, 1);
+    put(1, 1); /* one scheduled value */
+    put_double(a);
+    put_double(b);
+    put_double(0);
+}
+
+/* One pipe of two reaches, S = 1, R = 0; node 0 a reservoir at 10; node 1 a valve, a = 2, b = 6, shut.
+ * Heads 10, flows 4, floors 0. */
+static void put_job_q(void) {
+    static const uint32_t lengths[5] = {12, 2 * 26, 2 * 8, SECTIONS * 24, 2 * 8};
+    uint32_t offset = 46;
+    put(5, 2); /* pairs */
+    put(1, 4); /* steps for the listing */
+    for (int table = 0; table < 5; table++) {
+        put(offset, 4);
+        put(lengths[table], 4);
+        offset += lengths[table];
+    }
+    put(0, 1);
+    put(1, 1);
+    put(2, 2);
+    put_double(1);
+    put_node(1, 0, 0);
+    put_node(2, 2, 6);
+    put_double(0);
+    put_double(0);
+    for (int section = 0; section < SECTIONS; section++) {
+        put_double(10);
+        put_double(4);
+        put_double(0);
+    }
+    put_double(10);
+    put_double(0);
+}
+
+int main(void) {
+    double h[SECTIONS], q[SECTIONS], high[SECTIONS], low[SECTIONS], spare_h[SECTIONS], spare_q[SECTIONS];
+    put_job_q();
+    uint64_t answer = vintuqay_read(job, used);
+    printf("read: number %u, %u sections, %u steps\n", vintuqay_number(answer),
+           vintuqay_section(answer), (unsigned)vintuqay_steps(answer));
+    answer = vintuqay_start(job, used, h, SECTIONS, q, SECTIONS, high, SECTIONS, low, SECTIONS,
+                            spare_h, SECTIONS, spare_q, SECTIONS);
+    while (vintuqay_number(answer) == 0) {
+        printf("step %u: heads", (unsigned)vintuqay_steps(answer));
+        for (int section = 0; section < SECTIONS; section++)
+            printf(" %g", h[section]);
+        printf(", flows");
+        for (int section = 0; section < SECTIONS; section++)
+            printf(" %g", q[section]);
+        printf("\n");
+        if (vintuqay_steps(answer) == 5)
+            break;
+        answer = vintuqay_run_on(job, used, vintuqay_steps(answer), 1, h, SECTIONS, q, SECTIONS,
+                                 high, SECTIONS, low, SECTIONS, spare_h, SECTIONS, spare_q, SECTIONS);
+    }
+    for (size_t section = 0; section < SECTIONS; section++) {
+        uint8_t line[72];
+        size_t length = vintuqay_line(section, h[section], q[section], high[section], low[section],
+                                      line, sizeof line);
+        fwrite(line, 1, length, stdout);
+    }
+    answer = vintuqay_run_on(job, used, 5, 1, h, SECTIONS, q, SECTIONS - 1, high, SECTIONS, low,
+                             SECTIONS, spare_h, SECTIONS, spare_q, SECTIONS);
+    printf("a row too short: number %u\n", vintuqay_number(answer));
+    printf("roots: %g %a\n", vintuqay_root(144), vintuqay_root(2));
+    return 0;
+}

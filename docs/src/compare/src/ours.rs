@@ -1,0 +1,115 @@
+//! The calls of the proved calculator through its C interface.
+
+use reference::rows::{RowStore, ROWS};
+
+extern "C" {
+    fn vintuqay_root(x: f64) -> f64;
+    fn vintuqay_read(job: *const u8, job_length: usize) -> u64;
+    fn vintuqay_start(
+        job: *const u8,
+        job_length: usize,
+        heads: *mut f64,
+        heads_length: usize,
+        flows: *mut f64,
+        flows_length: usize,
+        highest: *mut f64,
+        highest_length: usize,
+        lowest: *mut f64,
+        lowest_length: usize,
+        spare_heads: *mut f64,
+        spare_heads_length: usize,
+        spare_flows: *mut f64,
+        spare_flows_length: usize,
+    ) -> u64;
+    fn vintuqay_run_on(
+        job: *const u8,
+        job_length: usize,
+        done: u64,
+        count: u64,
+        heads: *mut f64,
+        heads_length: usize,
+        flows: *mut f64,
+        flows_length: usize,
+        highest: *mut f64,
+        highest_length: usize,
+        lowest: *mut f64,
+        lowest_length: usize,
+        spare_heads: *mut f64,
+        spare_heads_length: usize,
+        spare_flows: *mut f64,
+        spare_flows_length: usize,
+    ) -> u64;
+    fn vintuqay_line(
+        section: usize,
+        head: f64,
+        flow: f64,
+        highest: f64,
+        lowest: f64,
+        out: *mut u8,
+        out_length: usize,
+    ) -> usize;
+}
+
+/// An answer, out of the one number that the C interface hands back.
+#[derive(Clone, Copy, Debug, PartialEq, Eq)]
+pub struct Answer {
+    /// The number of a refusal or of a stop, 0 where there is neither.
+    pub number: u64,
+    /// The section of a stop; the section count where a job was read.
+    pub section: u64,
+    pub steps: u64,
+}
+
+impl Answer {
+    fn unpacked(packed: u64) -> Answer {
+        Answer { number: packed & 0xff, section: packed >> 8 & 0xfff, steps: packed >> 20 }
+    }
+}
+
+pub fn root(x: f64) -> f64 {
+    unsafe { vintuqay_root(x) }
+}
+
+pub fn read(job: &[u8]) -> Answer {
+    Answer::unpacked(unsafe { vintuqay_read(job.as_ptr(), job.len()) })
+}
+
+/// The start, lent the first `lengths` entries of the rows.
+pub fn start(job: &[u8], rows: &mut RowStore, lengths: [usize; ROWS]) -> Answer {
+    let [a, b, c, d, e, f] = pointers(rows, lengths);
+    let [la, lb, lc, ld, le, lf] = lengths;
+    let packed = unsafe {
+        vintuqay_start(job.as_ptr(), job.len(), a, la, b, lb, c, lc, d, ld, e, le, f, lf)
+    };
+    Answer::unpacked(packed)
+}
+
+/// The run-on, lent the first `lengths` entries of the rows.
+pub fn run_on(
+    job: &[u8],
+    done: u64,
+    count: u64,
+    rows: &mut RowStore,
+    lengths: [usize; ROWS],
+) -> Answer {
+    let [a, b, c, d, e, f] = pointers(rows, lengths);
+    let [la, lb, lc, ld, le, lf] = lengths;
+    let (bytes, size) = (job.as_ptr(), job.len());
+    let packed = unsafe {
+        vintuqay_run_on(bytes, size, done, count, a, la, b, lb, c, lc, d, ld, e, le, f, lf)
+    };
+    Answer::unpacked(packed)
+}
+
+/// The line of a section at the front of `out`: how many bytes it takes, 0 for a refusal.
+pub fn line(section: usize, values: [f64; 4], out: &mut [u8]) -> usize {
+    let [head, flow, highest, lowest] = values;
+    unsafe { vintuqay_line(section, head, flow, highest, lowest, out.as_mut_ptr(), out.len()) }
+}
+
+fn pointers(rows: &mut RowStore, lengths: [usize; ROWS]) -> [*mut f64; ROWS] {
+    for (row, length) in rows.rows.iter().zip(lengths) {
+        assert!(length <= row.len(), "more is lent than there is");
+    }
+    rows.rows.each_mut().map(|row| row.as_mut_ptr())
+}

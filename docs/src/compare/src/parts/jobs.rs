@@ -1,0 +1,76 @@
+//! Whole runs of jobs at random, and every call on damaged ones.
+
+use crate::both::{self, Lent};
+use crate::tally::Tally;
+use reference::draft::Draft;
+use reference::generate::{cut_up, damaged, damaged_anywhere, odd, sound, Random};
+
+/// Read, started and run on in several calls, into rows of NaNs with some entries to spare.
+pub fn sound_and_odd_jobs(tally: &mut Tally) {
+    let mut random = Random::new(101);
+    for _ in 0..3000 {
+        let draft = sound(&mut random);
+        run(tally, &mut random, &draft);
+        tally.count("sound jobs", 1);
+    }
+    for _ in 0..5000 {
+        let draft = odd(&mut random);
+        run(tally, &mut random, &draft);
+        tally.count("odd jobs", 1);
+    }
+}
+
+fn run(tally: &mut Tally, random: &mut Random, draft: &Draft) {
+    let job = draft.bytes();
+    both::read(tally, &job);
+    let mut lent = Lent::marked(draft.section_count());
+    for length in &mut lent.lengths {
+        *length += random.below(4);
+    }
+    both::start(tally, &job, &mut lent);
+    let mut done = 0;
+    for count in cut_up(random, u64::from(draft.steps)) {
+        done = both::run_on(tally, &job, done, count, &mut lent).steps;
+    }
+}
+
+/// Each question broken alone, each two together, and jobs edited anywhere. A refused call leaves
+/// the NaNs in the rows as they are.
+pub fn damaged_jobs(tally: &mut Tally) {
+    let mut random = Random::new(102);
+    for question in 1..=15 {
+        for _ in 0..150 {
+            let job = damaged(&mut random, &[question]);
+            let number = refused_everywhere(tally, &job);
+            assert_eq!(
+                number,
+                u64::from(question),
+                "a job damaged for a question is refused there"
+            );
+            tally.count("jobs damaged for one question", 1);
+        }
+        for other in question + 1..=15 {
+            for _ in 0..5 {
+                let job = damaged(&mut random, &[question, other]);
+                let number = refused_everywhere(tally, &job);
+                assert_eq!(number, u64::from(question), "the least question decides");
+                tally.count("jobs damaged for two questions", 1);
+            }
+        }
+    }
+    for _ in 0..8000 {
+        let job = damaged_anywhere(&mut random);
+        refused_everywhere(tally, &job);
+        tally.count("jobs damaged anywhere", 1);
+    }
+}
+
+/// Read, start and run-on; answers with what `read` refused. A job that is accepted all the same
+/// runs on.
+fn refused_everywhere(tally: &mut Tally, job: &[u8]) -> u64 {
+    let answer = both::read(tally, job);
+    let mut lent = Lent::marked(512);
+    both::start(tally, job, &mut lent);
+    both::run_on(tally, job, 0, 9, &mut lent);
+    answer.number
+}

@@ -1,0 +1,54 @@
+//! How many of each were tried, and which numbers the proved calculator answered with.
+
+use crate::ours::Answer;
+use std::collections::BTreeMap;
+
+/// Every number of a refusal or a stop in document 01.
+pub const NUMBERS: [u64; 22] =
+    [1, 2, 3, 4, 5, 6, 7, 8, 9, 10, 11, 12, 13, 14, 15, 20, 21, 22, 23, 24, 40, 41];
+
+#[derive(Default)]
+pub struct Tally {
+    tried: Vec<(&'static str, u64)>,
+    numbers: BTreeMap<u64, u64>,
+}
+
+impl Tally {
+    pub fn count(&mut self, what: &'static str, more: u64) {
+        match self.tried.iter_mut().find(|(name, _)| *name == what) {
+            Some((_, count)) => *count += more,
+            None => self.tried.push((what, more)),
+        }
+    }
+
+    pub fn counted(&self, what: &str) -> u64 {
+        self.tried.iter().find(|(name, _)| *name == what).map_or(0, |&(_, count)| count)
+    }
+
+    /// Counts a refusal or a stop.
+    pub fn reach(&mut self, number: u64) {
+        if number != 0 {
+            *self.numbers.entry(number).or_default() += 1;
+        }
+    }
+
+    pub fn answer(&mut self, answer: Answer) -> Answer {
+        self.reach(answer.number);
+        answer
+    }
+
+    pub fn print(&self) {
+        for (what, count) in &self.tried {
+            println!("{count:>9} {what}");
+        }
+        println!("refusals and stops reached, each with how often:");
+        for (number, count) in &self.numbers {
+            println!("{number:>9}: {count}");
+        }
+    }
+
+    /// The numbers of document 01 that were not reached.
+    pub fn missing(&self) -> Vec<u64> {
+        NUMBERS.iter().copied().filter(|number| !self.numbers.contains_key(number)).collect()
+    }
+}
