@@ -108,6 +108,9 @@ mod tests {
         assert_eq!(head(shut, 0.0, sums(2.0, 1e20)), 2e-20);
         let deep = Kind::Pump { a: 0.0, b: 1.0, c: -1e300 };
         assert_eq!(head(deep, 1.0, sums(2.0, 1e20)), 2e-20);
+        // y is zero, and b·T passes every f64.
+        let idle = Kind::Pump { a: 0.0, b: 1e300, c: 0.0 };
+        assert_eq!(head(idle, 1.0, sums(0.0, 1e20)), 0.0);
     }
 
     #[test]
