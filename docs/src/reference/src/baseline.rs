@@ -42,10 +42,9 @@ fn state_admitted(plan: &Plan<'_>, rows: &Rows<'_>) -> bool {
     let floors = &plan.floors[..sections];
     let mut bad = 0_u64;
     for at in 0..sections {
-        // x - x is zero exactly where x is finite.
-        let state = (heads[at] - heads[at]) + (flows[at] - flows[at]);
-        let envelopes = (highest[at] - highest[at]) + (lowest[at] - lowest[at]);
-        let sound = (state + envelopes == 0.0) & (heads[at] >= floors[at]);
+        let state = heads[at].is_finite() & flows[at].is_finite();
+        let envelopes = highest[at].is_finite() & lowest[at].is_finite();
+        let sound = state & envelopes & (heads[at] >= floors[at]);
         bad += u64::from(!sound);
     }
     bad == 0

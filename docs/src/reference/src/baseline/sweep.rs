@@ -30,7 +30,7 @@ impl Envelopes<'_> {
 pub struct Faults {
     /// The sum of all heads and flows: not finite where one of them is not.
     sum: Two,
-    /// How many heads are below their floors, or no numbers.
+    /// How many heads are below their floors.
     below: [u64; 2],
 }
 
@@ -42,8 +42,8 @@ impl Faults {
     #[inline(always)]
     pub fn look_at(&mut self, head: Two, flow: Two, floor: Two) {
         self.sum = self.sum + (head + flow);
-        self.below[0] += u64::from(!(floor.0[0] <= head.0[0]));
-        self.below[1] += u64::from(!(floor.0[1] <= head.0[1]));
+        self.below[0] += u64::from(head.0[0] < floor.0[0]);
+        self.below[1] += u64::from(head.0[1] < floor.0[1]);
     }
 
     /// No faulty section is missed; a sum past every f64 is a false alarm.
