@@ -16,7 +16,7 @@ mod two;
 use crate::reader::MOST_STEPS;
 use crate::refusal::{ask, Refused};
 use crate::rows::Rows;
-use crate::run::{self, Cause, Ran, Stop};
+use crate::run::{self, first_stop, Ran};
 use ends::Ends;
 use plan::Plan;
 use sweep::{Envelopes, Faults, State};
@@ -42,10 +42,9 @@ fn state_admitted(plan: &Plan<'_>, rows: &Rows<'_>) -> bool {
     let floors = &plan.floors[..sections];
     let mut bad = 0_u64;
     for at in 0..sections {
-        // x - x is zero exactly where x is finite.
-        let state = (heads[at] - heads[at]) + (flows[at] - flows[at]);
-        let envelopes = (highest[at] - highest[at]) + (lowest[at] - lowest[at]);
-        let sound = (state + envelopes == 0.0) & (heads[at] >= floors[at]);
+        let state = heads[at].is_finite() & flows[at].is_finite();
+        let envelopes = highest[at].is_finite() & lowest[at].is_finite();
+        let sound = state & envelopes & (heads[at] >= floors[at]);
         bad += u64::from(!sound);
     }
     bad == 0
@@ -71,7 +70,8 @@ fn run(plan: &Plan<'_>, done: u64, count: u64, rows: &mut Rows<'_>) -> Ran {
             plan.work_out::<true>(step, &old, &mut new, &mut envelopes, &mut ends)
         };
         if faults.any() {
-            ran.stop = first_stop(plan, &new);
+            let floors = plan.floors[..sections].iter().copied();
+            ran.stop = first_stop(new.heads, new.flows, floors);
             if ran.stop.is_some() {
                 break;
             }
@@ -109,18 +109,4 @@ impl Plan<'_> {
         ends.write(self, step, new, &mut faults);
         faults
     }
-}
-
-/// The first section that stops the run; at one section 40 precedes 41.
-fn first_stop(plan: &Plan<'_>, new: &State<'_>) -> Option<Stop> {
-    for section in 0..plan.sections {
-        let (head, flow) = (new.heads[section], new.flows[section]);
-        if !(head.is_finite() && flow.is_finite()) {
-            return Some(Stop { cause: Cause::NotFinite, section });
-        }
-        if head < plan.floors[section] {
-            return Some(Stop { cause: Cause::Parted, section });
-        }
-    }
-    None
 }

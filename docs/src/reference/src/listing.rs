@@ -11,13 +11,13 @@ pub const LONGEST_LINE: usize = 72;
 
 /// The line call: writes the line of a section at the front of `out` and hands back the written
 /// part, newline included. A refusal, as 24, writes nothing.
-pub fn line<'a>(
+pub fn line(
     section: usize,
     point: Point,
     highest: f64,
     lowest: f64,
-    out: &'a mut [u8],
-) -> Result<&'a mut [u8], Refused> {
+    out: &mut [u8],
+) -> Result<&mut [u8], Refused> {
     ask(24, section < MOST_SECTIONS && out.len() >= LONGEST_LINE)?;
     let text = line_text(section, [point.head, point.flow, highest, lowest]);
     let part = &mut out[..text.len()];

@@ -4,42 +4,21 @@ use crate::job::Kind;
 use crate::root::root;
 use crate::wave::{magnitude, Sums};
 
-/// The root where it is taken in an equation; `None` where its argument is not finite. The
-/// arguments of both equations are never below zero.
+/// The root where an equation takes it; `None` where its argument is not finite. The arguments of
+/// both equations are never below zero.
 fn root_taken(x: f64) -> Option<f64> {
     root(x).ok()
 }
 
-/// q through a valve of opening `v`, out of the node; `None` where a root cannot be taken.
-pub fn valve_flow(v: f64, a: f64, b: f64, sums: Sums) -> Option<f64> {
-    let Sums { b: sum_k, t } = sums;
-    let w = ((v * a) * (v * a)) / t;
-    let y = sum_k - t * b;
-    if w == 0.0 {
-        return Some(0.0);
-    }
-    let z = magnitude(y);
-    let r = root_taken(w * w + 4.0 * (w * z))?;
-    let q = ((z + z) * w) / (w + r);
-    Some(if y < 0.0 { -q } else { q })
-}
-
-/// q from a pump of speed `v`, into the node; `None` where a root cannot be taken.
-pub fn pump_flow(v: f64, a: f64, b: f64, c: f64, sums: Sums) -> Option<f64> {
-    let Sums { b: sum_k, t } = sums;
-    let h = c + (v * v) * a;
-    let y = t * h - sum_k;
-    if y > 0.0 {
-        let r = root_taken(1.0 + 4.0 * ((b * t) * y))?;
-        Some((y + y) / (1.0 + r))
-    } else {
-        Some(0.0)
-    }
-}
-
-/// H of a node whose scheduled value at the step is `v`: plus infinity where B, T or the argument
-/// of a root that is taken is not finite.
+/// H of a node whose scheduled value at the step is `v`.
 pub fn head(kind: Kind, v: f64, sums: Sums) -> f64 {
+    head_by(root_taken, kind, v, sums)
+}
+
+/// H of a node, by a given way to take roots: plus infinity where B, T or the argument of a root
+/// that is taken is not finite.
+#[inline(always)]
+pub fn head_by(root: impl Fn(f64) -> Option<f64>, kind: Kind, v: f64, sums: Sums) -> f64 {
     let Sums { b: sum_k, t } = sums;
     if !(sum_k.is_finite() && t.is_finite()) {
         return f64::INFINITY;
@@ -47,14 +26,54 @@ pub fn head(kind: Kind, v: f64, sums: Sums) -> f64 {
     match kind {
         Kind::Junction => (sum_k - v) / t,
         Kind::Reservoir => v,
-        Kind::Valve { a, b } => match valve_flow(v, a, b, sums) {
+        Kind::Valve { a, b } => match valve_flow(root, v, a, b, sums) {
             Some(q) => (sum_k - q) / t,
             None => f64::INFINITY,
         },
-        Kind::Pump { a, b, c } => match pump_flow(v, a, b, c, sums) {
+        Kind::Pump { a, b, c } => match pump_flow(root, v, [a, b, c], sums) {
             Some(q) => (sum_k + q) / t,
             None => f64::INFINITY,
         },
+    }
+}
+
+/// q through a valve of opening `v`, out of the node; `None` where a root cannot be taken.
+#[inline(always)]
+fn valve_flow(
+    root: impl Fn(f64) -> Option<f64>,
+    v: f64,
+    a: f64,
+    b: f64,
+    sums: Sums,
+) -> Option<f64> {
+    let Sums { b: sum_k, t } = sums;
+    let w = ((v * a) * (v * a)) / t;
+    let y = sum_k - t * b;
+    if w == 0.0 {
+        return Some(0.0);
+    }
+    let z = magnitude(y);
+    let r = root(w * w + 4.0 * (w * z))?;
+    let q = ((z + z) * w) / (w + r);
+    Some(if y < 0.0 { -q } else { q })
+}
+
+/// q from a pump of speed `v`, into the node; `None` where a root cannot be taken.
+#[inline(always)]
+fn pump_flow(
+    root: impl Fn(f64) -> Option<f64>,
+    v: f64,
+    [a, b, c]: [f64; 3],
+    sums: Sums,
+) -> Option<f64> {
+    let Sums { b: sum_k, t } = sums;
+    let h = c + (v * v) * a;
+    let y = t * h - sum_k;
+    if y > 0.0 {
+        let r = root(1.0 + 4.0 * ((b * t) * y))?;
+        Some((y + y) / (1.0 + r))
+    } else {
+        Some(0.0)
     }
 }
 
@@ -71,17 +90,17 @@ mod tests {
 
     #[test]
     fn p6_and_p7() {
-        assert_eq!(valve_flow(1.0, 2.0, 6.0, sums(14.0, 1.0)), Some(4.0));
+        assert_eq!(valve_flow(root_taken, 1.0, 2.0, 6.0, sums(14.0, 1.0)), Some(4.0));
         assert_eq!(head(VALVE_OF_Q, 1.0, sums(14.0, 1.0)), 10.0);
-        assert_eq!(valve_flow(1.0, 2.0, 6.0, sums(3.0, 1.0)), Some(-2.0));
+        assert_eq!(valve_flow(root_taken, 1.0, 2.0, 6.0, sums(3.0, 1.0)), Some(-2.0));
         assert_eq!(head(VALVE_OF_Q, 1.0, sums(3.0, 1.0)), 5.0);
     }
 
     #[test]
     fn p8() {
-        assert_eq!(pump_flow(1.0, 10.0, 1.5, 0.0, sums(2.0, 1.0)), Some(2.0));
+        assert_eq!(pump_flow(root_taken, 1.0, [10.0, 1.5, 0.0], sums(2.0, 1.0)), Some(2.0));
         assert_eq!(head(PUMP_OF_P8, 1.0, sums(2.0, 1.0)), 4.0);
-        assert_eq!(pump_flow(0.0, 10.0, 1.5, 0.0, sums(2.0, 1.0)), Some(0.0));
+        assert_eq!(pump_flow(root_taken, 0.0, [10.0, 1.5, 0.0], sums(2.0, 1.0)), Some(0.0));
         assert_eq!(head(PUMP_OF_P8, 0.0, sums(2.0, 1.0)), 2.0);
     }
 
@@ -108,6 +127,9 @@ mod tests {
         assert_eq!(head(shut, 0.0, sums(2.0, 1e20)), 2e-20);
         let deep = Kind::Pump { a: 0.0, b: 1.0, c: -1e300 };
         assert_eq!(head(deep, 1.0, sums(2.0, 1e20)), 2e-20);
+        // y is zero, and b·T passes every f64.
+        let idle = Kind::Pump { a: 0.0, b: 1e300, c: 0.0 };
+        assert_eq!(head(idle, 1.0, sums(0.0, 1e20)), 0.0);
     }
 
     #[test]

@@ -78,7 +78,7 @@ fn tables(bytes: &[u8]) -> [&[u8]; 5] {
 
 /// Questions 5 and 6: whole records of `width` bytes, `least` to `most` of them.
 fn whole_records(table: &[u8], width: usize, least: usize, most: usize) -> bool {
-    table.len() % width == 0 && (least..=most).contains(&(table.len() / width))
+    table.len().is_multiple_of(width) && (least..=most).contains(&(table.len() / width))
 }
 
 /// Table 1, each pipe with the places of its sections and reaches.

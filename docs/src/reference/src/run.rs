@@ -75,7 +75,8 @@ fn state_admitted(job: &Job, rows: &Rows<'_>) -> bool {
 fn run(job: &Job, done: u64, count: u64, rows: &mut Rows<'_>) -> Ran {
     for step in done + 1..=done + count {
         work_out(job, step, rows);
-        let stop = first_stop(job, rows);
+        let floors = job.initial.iter().map(|initial| initial.floor);
+        let stop = first_stop(rows.spare_heads, rows.spare_flows, floors);
         if stop.is_some() {
             return Ran { done: step - 1, stop };
         }
@@ -139,14 +140,17 @@ fn node_heads(job: &Job, step: u64, rows: &Rows<'_>) -> Vec<f64> {
     nodes.map(|(node, sums)| node::head(node.kind, node.value_at(step), sums)).collect()
 }
 
-/// Scans the sections upward; at one section 40 precedes 41.
-fn first_stop(job: &Job, rows: &Rows<'_>) -> Option<Stop> {
-    for section in 0..job.sections() {
-        let (head, flow) = (rows.spare_heads[section], rows.spare_flows[section]);
+/// Scans new heads and flows upward; at one section 40 precedes 41.
+pub(crate) fn first_stop(
+    heads: &[f64],
+    flows: &[f64],
+    floors: impl Iterator<Item = f64>,
+) -> Option<Stop> {
+    for (section, ((&head, &flow), floor)) in heads.iter().zip(flows).zip(floors).enumerate() {
         if !(head.is_finite() && flow.is_finite()) {
             return Some(Stop { cause: Cause::NotFinite, section });
         }
-        if head < job.initial[section].floor {
+        if head < floor {
             return Some(Stop { cause: Cause::Parted, section });
         }
     }

@@ -135,15 +135,35 @@ fn a_t_beyond_every_f64_stops_even_a_reservoir() {
 fn spare_rows_are_cleared_and_entries_past_the_count_untouched() {
     let bytes = job_q().bytes();
     let marked = RowStore::marked(7).bits();
-    let mut store = RowStore::marked(7);
-    start(&bytes, store.lend()).unwrap();
-    for count in [0, 1, 5] {
-        run_on(&bytes, 0, count, store.lend()).unwrap();
+    let check = |store: &RowStore| {
         for (row, bits) in store.bits().iter().enumerate() {
             assert_eq!(bits[3..], marked[row][3..]);
         }
         assert!(store.bits()[4..].iter().all(|row| row[..3] == [0, 0, 0]));
+    };
+    let mut store = RowStore::marked(7);
+    start(&bytes, store.lend()).unwrap();
+    check(&store);
+    for count in [0, 1, 5] {
+        store.rows[4][..3].fill(f64::NAN);
+        store.rows[5][..3].fill(-0.0);
+        run_on(&bytes, 0, count, store.lend()).unwrap();
+        check(&store);
     }
+}
+
+#[test]
+fn minus_zero_is_not_below_zero_but_is_not_all_zero_bits() {
+    let mut draft = job_q();
+    draft.friction = vec![-0.0, 0.0];
+    draft.nodes[1] = DraftNode::valve(-0.0, -0.0, &[-0.0, 1.0]);
+    assert!(read(&draft.bytes()).is_ok());
+    draft.nodes[1].figures[2] = -0.0;
+    assert_eq!(read(&draft.bytes()), Err(Refused(11)));
+    draft.nodes[1] = DraftNode::pump(-0.0, -0.0, -0.0, &[-0.0]);
+    assert!(read(&draft.bytes()).is_ok());
+    draft.nodes[0].figures[0] = -0.0;
+    assert_eq!(read(&draft.bytes()), Err(Refused(11)));
 }
 
 #[test]

@@ -1,10 +1,10 @@
 //! The nodes of one step, and the sections at the ends of the pipes.
 
-use super::plan::{NodePlan, PipePlan, Plan};
+use super::plan::{PipePlan, Plan};
 use super::sweep::{EndK, Faults, State};
 use super::two::Two;
-use crate::job::Kind;
-use crate::wave::{finish_flow, magnitude, start_flow};
+use crate::node::head_by;
+use crate::wave::{finish_flow, start_flow, Sums};
 
 /// K at the ends of each pipe, and B of each node.
 pub struct Ends {
@@ -35,7 +35,8 @@ impl Ends {
     pub fn write(&self, plan: &Plan<'_>, step: u64, new: &mut State<'_>, faults: &mut Faults) {
         let mut heads = [0.0; 32];
         for ((node, &b), head) in plan.nodes().iter().zip(&self.b).zip(&mut heads) {
-            *head = node_head(node, plan.value_at(node, step), b);
+            let sums = Sums { b, t: node.t };
+            *head = head_by(root, node.kind, plan.value_at(node, step), sums);
         }
         for (pipe, k) in plan.pipes().iter().zip(&self.k) {
             let (first, last) = (pipe.first, pipe.first + pipe.reaches);
@@ -50,59 +51,22 @@ impl Ends {
     }
 }
 
-/// H of a node: plus infinity where B, T or the argument of a root that is taken is not finite.
+/// The root of a number not below zero, `None` where it is not finite: the machine's root, which is
+/// the nearest f64, or the f64 below it where its exact square is greater than the argument.
 #[inline(always)]
-fn node_head(node: &NodePlan, v: f64, b: f64) -> f64 {
-    let t = node.t;
-    if !(b.is_finite() & t.is_finite()) {
-        return f64::INFINITY;
+fn root(x: f64) -> Option<f64> {
+    if !x.is_finite() {
+        return None;
     }
-    match node.kind {
-        Kind::Junction => (b - v) / t,
-        Kind::Reservoir => v,
-        Kind::Valve { a, b: tank } => {
-            let va = v * a;
-            let w = (va * va) / t;
-            if w == 0.0 {
-                return (b - 0.0) / t;
-            }
-            let y = b - t * tank;
-            let z = magnitude(y);
-            let x = w * w + 4.0 * (w * z);
-            if !x.is_finite() {
-                return f64::INFINITY;
-            }
-            let q = ((z + z) * w) / (w + root(x));
-            (b - if y < 0.0 { -q } else { q }) / t
-        }
-        Kind::Pump { a, b: curve, c } => {
-            let y = t * (c + (v * v) * a) - b;
-            if y > 0.0 {
-                let x = 1.0 + 4.0 * ((curve * t) * y);
-                if !x.is_finite() {
-                    return f64::INFINITY;
-                }
-                (b + (y + y) / (1.0 + root(x))) / t
-            } else {
-                (b + 0.0) / t
-            }
-        }
-    }
-}
-
-/// The root of a finite number not below zero: the machine's, which is the nearest f64, or the f64
-/// below it where its exact square is greater than the argument.
-#[inline(always)]
-fn root(x: f64) -> f64 {
     if x == 0.0 {
-        return 0.0;
+        return Some(0.0);
     }
     let nearest = x.sqrt();
     let (root, root_exponent) = parts(nearest);
     let (argument, exponent) = parts(x);
     let square = u128::from(root) * u128::from(root);
     let above = square > u128::from(argument) << (exponent - 2 * root_exponent);
-    f64::from_bits(nearest.to_bits() - u64::from(above))
+    Some(f64::from_bits(nearest.to_bits() - u64::from(above)))
 }
 
 /// x as a whole number times a power of two.
@@ -123,6 +87,7 @@ mod tests {
 
     #[test]
     fn the_root_is_the_plain_one() {
+        assert_eq!((root(f64::INFINITY), root(f64::NAN)), (None, None));
         let mut random = Random::new(6);
         let edges = [0.0, -0.0, 2.0, 144.0, f64::MAX, f64::MIN_POSITIVE, f64::from_bits(1)];
         let squares = (1..2000).map(|t| f64::from(t) * f64::from(t));
@@ -131,7 +96,7 @@ mod tests {
         let all = edges.into_iter().chain(squares).chain(tiny).chain(any);
         for x in all.filter(|x| x.is_finite()) {
             let plain = crate::root::root(x).unwrap();
-            assert_eq!(root(x).to_bits(), plain.to_bits(), "{x:e}");
+            assert_eq!(root(x).unwrap().to_bits(), plain.to_bits(), "{x:e}");
         }
     }
 }

@@ -144,7 +144,7 @@ impl<'a> Plan<'a> {
         let mut bad = 0_u64;
         for (record, floor) in table.as_chunks::<24>().0.iter().zip(&mut self.floors) {
             let [head, flow, lowest] = [0, 8, 16].map(|at| f64_at(record, at));
-            let finite = (head - head) + (flow - flow) + (lowest - lowest) == 0.0;
+            let finite = head.is_finite() & flow.is_finite() & lowest.is_finite();
             bad += u64::from(!(finite & (head >= lowest)));
             *floor = lowest;
         }
@@ -153,7 +153,7 @@ impl<'a> Plan<'a> {
 
     /// Question 15; the number of entries is known to be right but for bytes after the last.
     fn schedules_sound(&self, length: usize) -> bool {
-        let mut bad = u64::from(length % 8 != 0);
+        let mut bad = u64::from(!length.is_multiple_of(8));
         for node in self.nodes() {
             let (least, most) = match node.kind {
                 Kind::Junction | Kind::Reservoir => (-f64::MAX, f64::MAX),
@@ -191,5 +191,5 @@ fn tables(bytes: &[u8]) -> Option<[&[u8]; 5]> {
 /// Questions 5 and 6: how many whole records, at least so many and at most 32.
 fn records(table: &[u8], width: usize, least: usize) -> Option<usize> {
     let count = table.len() / width;
-    (table.len() % width == 0 && (least..=MOST).contains(&count)).then_some(count)
+    (table.len().is_multiple_of(width) && (least..=MOST).contains(&count)).then_some(count)
 }

@@ -30,7 +30,7 @@ impl Envelopes<'_> {
 pub struct Faults {
     /// The sum of all heads and flows: not finite where one of them is not.
     sum: Two,
-    /// How many heads are below their floors, or no numbers.
+    /// How many heads are below their floors.
     below: [u64; 2],
 }
 
@@ -42,8 +42,8 @@ impl Faults {
     #[inline(always)]
     pub fn look_at(&mut self, head: Two, flow: Two, floor: Two) {
         self.sum = self.sum + (head + flow);
-        self.below[0] += u64::from(!(floor.0[0] <= head.0[0]));
-        self.below[1] += u64::from(!(floor.0[1] <= head.0[1]));
+        self.below[0] += u64::from(head.0[0] < floor.0[0]);
+        self.below[1] += u64::from(head.0[1] < floor.0[1]);
     }
 
     /// No faulty section is missed; a sum past every f64 is a false alarm.
@@ -107,18 +107,21 @@ pub fn pipe<const TAKE: bool>(
         new_heads: pairs_mut(new.heads, first + 1, count - 1),
         new_flows: pairs_mut(new.flows, first + 1, count - 1),
     };
-    let cp = sweep::<TAKE>(pipe.s, rows, faults);
+    let start = Point { head: old.heads[first], flow: old.flows[first] };
+    let cp = sweep::<TAKE>(pipe.s, start, rows, faults);
     last_sections::<TAKE>(plan, pipe, old, new, envelopes, faults, cp)
 }
 
 /// Works out the new pairs. CP of sections i + 1 and i + 2 comes from sections i and i + 1, and CM
 /// of the same two from i + 2 and i + 3, so that pairs fit together without being shifted, and what
 /// a section hands to its two neighbours is worked out once. Answers CP of the two sections after
-/// the first of the last old pair. Not inlined, so that one index serves all rows.
+/// the first of the last old pair. Not inlined, so that one index serves all rows. The start section
+/// is handed over apart: it was written alone just before, and a load of its pair would wait for it.
 #[inline(never)]
-fn sweep<const TAKE: bool>(s: f64, rows: Pairs<'_>, faults: &mut Faults) -> [f64; 2] {
+fn sweep<const TAKE: bool>(s: f64, start: Point, rows: Pairs<'_>, faults: &mut Faults) -> [f64; 2] {
     let (s, s_twice, half) = (Two::both(s), Two::both(s + s), Two::both(0.5));
-    let (h, q) = (Two(rows.heads[0]), Two(rows.flows[0]));
+    let h = Two([start.head, rows.heads[0][1]]);
+    let q = Two([start.flow, rows.flows[0][1]]);
     let mut cp = (q + s * h) - (Two(rows.friction_below[0]) * q) * q.magnitude();
     if TAKE {
         rows.highest[0] = h.or_greater(Two(rows.highest[0])).0;
