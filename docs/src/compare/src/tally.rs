@@ -37,10 +37,14 @@ impl Tally {
         answer
     }
 
-    pub fn print(&self) {
+    pub fn print_tried(&self) {
         for (what, count) in &self.tried {
             println!("{count:>9} {what}");
         }
+    }
+
+    pub fn print(&self) {
+        self.print_tried();
         println!("refusals and stops reached, each with how often:");
         for (number, count) in &self.numbers {
             println!("{number:>9}: {count}");

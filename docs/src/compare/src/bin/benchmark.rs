@@ -88,8 +88,17 @@ fn median(mut values: Vec<f64>) -> f64 {
 
 fn main() {
     let (long, many) = (one_long_pipe(), many_pipes());
-    Plan::new("one pipe of 511 reaches, 10,000 steps", &long, 1, 10_000, 41).measure();
-    Plan::new("32 pipes of 15 reaches, 10,000 steps", &many, 1, 10_000, 41).measure();
-    Plan::new("one pipe of 511 reaches, 1,000 calls of one step", &long, 1000, 1, 101).measure();
-    Plan::new("32 pipes of 15 reaches, 1,000 calls of one step", &many, 1000, 1, 101).measure();
+    let plans = [
+        Plan::new("one pipe of 511 reaches, 10,000 steps", &long, 1, 10_000, 41),
+        Plan::new("32 pipes of 15 reaches, 10,000 steps", &many, 1, 10_000, 41),
+        Plan::new("one pipe of 511 reaches, 1,000 calls of one step", &long, 1000, 1, 101),
+        Plan::new("32 pipes of 15 reaches, 1,000 calls of one step", &many, 1000, 1, 101),
+    ];
+    // A number from 1 to 4 asks for one of them.
+    let only = std::env::args().nth(1).and_then(|number| number.parse::<usize>().ok());
+    for (place, plan) in plans.iter().enumerate() {
+        if only.is_none_or(|number| number == place + 1) {
+            plan.measure();
+        }
+    }
 }

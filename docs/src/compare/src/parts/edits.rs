@@ -9,7 +9,7 @@ use reference::generate::{odd, sound, Random};
 
 pub fn edits(tally: &mut Tally) {
     let mut random = Random::new(105);
-    for place in 0..3000 {
+    for place in 0..6000 {
         let draft = if place % 5 == 0 { odd(&mut random) } else { sound(&mut random) };
         let node = random.below(draft.nodes.len());
         let mut edited = draft.clone();
@@ -112,7 +112,8 @@ impl Pair {
         };
         for (section, far) in self.far.iter().enumerate() {
             let alike = bits(0, section) == bits(1, section);
-            let promised = far.is_none_or(|d| m + 1 <= self.k + d);
+            // m is at most k + d - 1.
+            let promised = far.is_none_or(|d| m < self.k + d);
             if promised && !alike {
                 let found = format!("section {section} at {far:?}, m is {m}, k is {}", self.k);
                 differ("demand 3", &self.jobs[0], &found);

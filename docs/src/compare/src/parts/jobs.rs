@@ -8,12 +8,12 @@ use reference::generate::{cut_up, damaged, damaged_anywhere, odd, sound, Random}
 /// Read, started and run on in several calls, into rows of NaNs with some entries to spare.
 pub fn sound_and_odd_jobs(tally: &mut Tally) {
     let mut random = Random::new(101);
-    for _ in 0..3000 {
+    for _ in 0..6000 {
         let draft = sound(&mut random);
         run(tally, &mut random, &draft);
         tally.count("sound jobs", 1);
     }
-    for _ in 0..5000 {
+    for _ in 0..10_000 {
         let draft = odd(&mut random);
         run(tally, &mut random, &draft);
         tally.count("odd jobs", 1);
@@ -58,7 +58,7 @@ pub fn damaged_jobs(tally: &mut Tally) {
             }
         }
     }
-    for _ in 0..8000 {
+    for _ in 0..20_000 {
         let job = damaged_anywhere(&mut random);
         refused_everywhere(tally, &job);
         tally.count("jobs damaged anywhere", 1);

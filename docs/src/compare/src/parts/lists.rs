@@ -8,7 +8,7 @@ use reference::generate::{cut_up, odd, sound, Random};
 
 pub fn lists(tally: &mut Tally) {
     let mut random = Random::new(104);
-    for place in 0..1200 {
+    for place in 0..3000 {
         let mut draft = if place % 3 == 0 { odd(&mut random) } else { sound(&mut random) };
         draft.steps = random.from_to(1, 90) as u32;
         list(tally, &mut random, &draft);
