@@ -24,16 +24,16 @@ fits c =
     rw (c .table .ensures) (initial-fits _ (pre .0 .0), omega (arith, initial-length _ (pre .0 .0), pre .0 .1))
 
 write-heads-requires : tie.Need-write-heads-requires
-write-heads-requires c κs = let f = fits (c .before) in (f .0, f .1, c .before .before .before .before .before .before .before .pre .1 .0)
+write-heads-requires c κs = let f = fits (c .before) in (f .0, omega (arith, f .1), omega (arith, c .before .before .before .before .before .before .before .pre .1 .0))
 
 write-flows-requires : tie.Need-write-flows-requires
-write-flows-requires c κs = let f = fits (c .before .before .before .before .before) in (f .0, f .1, c .before .before .before .before .before .before .before .before .before .before .before .pre .1 .1)
+write-flows-requires c κs = let f = fits (c .before .before .before .before .before) in (f .0, omega (arith, f .1), omega (arith, c .before .before .before .before .before .before .before .before .before .before .before .pre .1 .1))
 
 write-heads-requires-2 : tie.Need-write-heads-requires-2
-write-heads-requires-2 c κs = let f = fits (c .before .before .before .before .before .before .before .before .before) in (f .0, f .1, c .before .before .before .before .before .before .before .before .before .before .before .before .before .before .before .pre .1 .2)
+write-heads-requires-2 c κs = let f = fits (c .before .before .before .before .before .before .before .before .before) in (f .0, omega (arith, f .1), omega (arith, c .before .before .before .before .before .before .before .before .before .before .before .before .before .before .before .pre .1 .2))
 
 write-heads-requires-3 : tie.Need-write-heads-requires-3
-write-heads-requires-3 c κs = let f = fits (c .before .before .before .before .before .before .before .before .before .before .before .before .before) in (f .0, f .1, c .before .before .before .before .before .before .before .before .before .before .before .before .before .before .before .before .before .before .before .pre .1 .3)
+write-heads-requires-3 c κs = let f = fits (c .before .before .before .before .before .before .before .before .before .before .before .before .before) in (f .0, omega (arith, f .1), omega (arith, c .before .before .before .before .before .before .before .before .before .before .before .before .before .before .before .before .before .before .before .pre .1 .3))
 
 returns : tie.Need-returns
 unfolding initialAt jobOf
