@@ -24,3 +24,10 @@ raisedAt highest heads s = raised (entry highest s) (entry heads s)
 
 unfoldable pub loweredAt : List Float → List Float → ℕ → Float
 loweredAt lowest heads s = lowered (entry lowest s) (entry heads s)
+
+-- the envelopes of section s over the heads of two steps
+unfoldable pub raisedTwiceAt : List Float → List Float → List Float → ℕ → Float
+raisedTwiceAt highest first second s = raised (raisedAt highest first s) (entry second s)
+
+unfoldable pub loweredTwiceAt : List Float → List Float → List Float → ℕ → Float
+loweredTwiceAt lowest first second s = lowered (loweredAt lowest first s) (entry second s)

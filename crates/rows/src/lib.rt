@@ -15,6 +15,7 @@ ghost use Rattle.rows.specs.Faults as scan;
 ghost use Rattle.rows.specs.Sweep as pipe;
 use wave::HeadFlow;
 
+pub mod envelopes;
 pub mod found;
 
 pub use found::Scan;
