@@ -1,4 +1,5 @@
 pub mod Alike
 pub mod Taken
-pub mod Underway
+pub mod Runs
+pub mod Rewritten
 pub mod Left

@@ -18,19 +18,16 @@ use Rattle.job.proofs.Listed.{getD-listed}
 use Rattle.job.proofs.Accepted.{initial-length}
 use Rattle.recurrence.specs.State.{Point, State, pointAt, noPoint}
 use Rattle.recurrence.specs.Step.{inputs, located, newAt, updated, newPoint, advanced}
-use Rattle.recurrence.specs.Scan.{Cause, fault, scan}
+use Rattle.recurrence.specs.Scan.{scan}
 use Rattle.recurrence.specs.Calls.{Rows, enoughLent, pointIn, stateIn}
 use Rattle.recurrence.proofs.Listed.{listed-cong}
 use Rattle.recurrence.proofs.RowLaws.{state-at, Lengths, enough-lengths}
 use Rattle.recurrence.proofs.StepLaws.{advanced-at}
 use Rattle.rows.specs.Rows.{entry, raised, lowered, raisedAt, loweredAt}
-use Rattle.rows.specs.declared.found.Scan.{Scan}
-use Rattle.rows.specs.declared.found.Scan.the-variants.{Sound}
-use Rattle.rows.specs.Faults.{floorIn, firstFault, foundFault}
+use Rattle.rows.specs.Faults.{floorIn, firstFault}
 use Rattle.rows.proofs.InState.{updated-highest, updated-lowest, scan-is}
 use Rattle.march.specs.March.{held, newSection}
-use Rattle.surge.specs.Answers.{six}
-use Rattle.surge.specs.Inner.{Ready, SameRest, stateAfter, Stepped}
+use Rattle.surge.specs.Inner.{Ready}
 use Rattle.surge.proofs.Alike.{field-listed, new-alike}
 
 -- ---- a filled row
@@ -57,7 +54,7 @@ module _ (job : List ℕ) (n step : ℕ) (r : Rows) (ready : Ready job n r) wher
   abbrev st : State
   st = stateIn n r
 
-  long : Lengths n r
+  pub long : Lengths n r
   long = enough-lengths n r (ready .enough)
 
   -- the new head and flow of section s
@@ -76,10 +73,10 @@ module _ (job : List ℕ) (n step : ℕ) (r : Rows) (ready : Ready job n r) wher
   module _ (a b : List Float)
       (ea : a ≡ fill (λ s. newSection job step (r .heads) (r .flows) s .head) (r .spareHeads) 0 (sections j))
       (eb : b ≡ fill (λ s. newSection job step (r .heads) (r .flows) s .flow) (r .spareFlows) 0 (sections j)) where
-    heads-are : a ≡ fill (λ s. newSection job step (r .heads) (r .flows) s .head) (r .spareHeads) 0 n
+    pub heads-are : a ≡ fill (λ s. newSection job step (r .heads) (r .flows) s .head) (r .spareHeads) 0 n
     heads-are = ea ∙ rw (ready .count)
 
-    flows-are : b ≡ fill (λ s. newSection job step (r .heads) (r .flows) s .flow) (r .spareFlows) 0 n
+    pub flows-are : b ≡ fill (λ s. newSection job step (r .heads) (r .flows) s .flow) (r .spareFlows) 0 n
     flows-are = eb ∙ rw (ready .count)
 
     new-head : (s : ℕ) → s < n → entry a s ≡ new s .head
@@ -96,54 +93,23 @@ module _ (job : List ℕ) (n step : ℕ) (r : Rows) (ready : Ready job n r) wher
         (λ s h. new-head s (omega (arith, ready .count)) ∙ sym (ap (λ (p : Point). p .head) (advanced-at j step st s h)))
         (λ s h. new-flow s (omega (arith, ready .count)) ∙ sym (ap (λ (p : Point). p .flow) (advanced-at j step st s h)))
 
-    -- the four rows of the state, once they are taken over
-    module _ (heads flows highest lowest : List Float)
-        (eh : heads ≡ fill (entry a) (r .heads) 0 n) (eq : flows ≡ fill (entry b) (r .flows) 0 n)
-        (eu : highest ≡ fill (raisedAt (r .highest) a) (r .highest) 0 n) (el : lowest ≡ fill (loweredAt (r .lowest) a) (r .lowest) 0 n) where
-      after : Rows
-      after = six heads flows highest lowest a b
-
+    -- rows that have taken them over, envelopes included
+    module _ (after : Rows)
+        (eh : (s : ℕ) → s < n → entry (after .heads) s ≡ entry a s) (eq : (s : ℕ) → s < n → entry (after .flows) s ≡ entry b s)
+        (eu : (s : ℕ) → s < n → entry (after .highest) s ≡ raisedAt (r .highest) a s) (el : (s : ℕ) → s < n → entry (after .lowest) s ≡ loweredAt (r .lowest) a s) where
       point : (s : ℕ) → s < n → pointIn after s ≡ newPoint (laid j) (inputs j step) st s
-      unfolding after pointIn newPoint updated raisedAt loweredAt raised lowered
+      unfolding pointIn newPoint updated raisedAt loweredAt raised lowered
       point s h =
           let old : pointAt st s ≡ pointIn r s = state-at n r s h in
-          let x : entry heads s ≡ new s .head = rw eh (filled-at (entry a) (r .heads) n (long .heads) s h ∙ new-head s h) in
-          let y : entry flows s ≡ new s .flow = rw eq (filled-at (entry b) (r .flows) n (long .flows) s h ∙ new-flow s h) in
-          let u : entry highest s ≡ raised (pointAt st s .highest) (new s .head) =
-          rw eu (filled-at (raisedAt (r .highest) a) (r .highest) n (long .highest) s h ∙ rw (new-head s h, old)) in
-          let v : entry lowest s ≡ lowered (pointAt st s .lowest) (new s .head) =
-          rw el (filled-at (loweredAt (r .lowest) a) (r .lowest) n (long .lowest) s h ∙ rw (new-head s h, old)) in
+          let x : entry (after .heads) s ≡ new s .head = eh s h ∙ new-head s h in
+          let y : entry (after .flows) s ≡ new s .flow = eq s h ∙ new-flow s h in
+          let u : entry (after .highest) s ≡ raised (pointAt st s .highest) (new s .head) = eu s h ∙ rw (new-head s h, old) in
+          let v : entry (after .lowest) s ≡ lowered (pointAt st s .lowest) (new s .head) = el s h ∙ rw (new-head s h, old) in
           λ i. record { head = x i; flow = y i; highest = u i; lowest = v i }
 
-      state-taken : stateIn n after ≡ advanced j step st
+      pub state-taken : stateIn n after ≡ advanced j step st
       unfolding stateIn advanced
       state-taken =
           ap (λ (k : ℕ). stateIn k after) (ready .count)
           ∙ ap (λ (ps : List Point). record { points = ps })
           (listed-cong (sections j) (pointIn after) (newPoint (laid j) (inputs j step) st) (λ s h. point s (omega (arith, ready .count))))
-
-      -- the step finds no fault
-      pub step-sound : {found : Scan} → foundFault found ≡ firstFault (initialTable job) a b n → found ≡ Sound → Stepped job n step r (six heads flows highest lowest a b) Sound
-      unfolding after foundFault stateAfter
-      step-sound {found} e sound = record {
-        fault-is = ap foundFault (sym sound) ∙ e ∙ scanned;
-        state-is = state-taken;
-        rest = record {
-          heads = filled-rest _ _ n eh;
-          flows = filled-rest _ _ n eq;
-          highest = filled-rest _ _ n eu;
-          lowest = filled-rest _ _ n el;
-          spare-heads = filled-rest _ _ n heads-are;
-          spare-flows = filled-rest _ _ n flows-are;
-        };
-      }
-
-    -- it finds one, and nothing is taken over
-    pub step-stopped : {found : Scan} → foundFault found ≡ firstFault (initialTable job) a b n → {c : Cause} {s : ℕ} → foundFault found ≡ fault c s
-        → Stepped job n step r (six (r .heads) (r .flows) (r .highest) (r .lowest) a b) found
-    unfolding stateIn pointIn stateAfter
-    step-stopped e stops = record {
-      fault-is = e ∙ scanned;
-      state-is = rw stops;
-      rest = record { heads = refl; flows = refl; highest = refl; lowest = refl; spare-heads = filled-rest _ _ n heads-are; spare-flows = filled-rest _ _ n flows-are };
-    }

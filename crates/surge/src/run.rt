@@ -1,12 +1,9 @@
 // A run of steps.
 ghost use mathlib.Core.Path.{_≡_};
 ghost use Prim.Native.Nat.{ℕ, _+_, _≤_};
-ghost use Rattle.job.specs.Format.{jobOf};
-ghost use Rattle.recurrence.specs.Run.{steps};
-ghost use Rattle.recurrence.specs.Calls.{stateIn};
 ghost use Rattle.march.specs.March.{constantSums};
 ghost use Rattle.surge.specs.Answers.{six};
-ghost use Rattle.surge.specs.Inner.{Ready, SameRest, resultOf};
+ghost use Rattle.surge.specs.Inner.{Ready, Runs};
 use rows::Scan;
 
 // How a run ended: the steps done in all, and what stopped it.
@@ -15,7 +12,8 @@ pub struct Ended {
     pub found: Scan,
 }
 
-// Does `count` steps after `done`, fewer only where one stops the run; t has T of each node.
+// Does `count` steps after `done`, fewer only where one stops the run; t has T of each node. Two
+// steps a turn, and the last by itself where their number is odd.
 pub fn run(
     job: &[u8],
     n: usize,
@@ -30,17 +28,14 @@ pub fn run(
     spare_flows: &mut [f64],
 ) -> Ended
     requires { ⌜ (Ready (now job) n (six (now heads) (now flows) (now highest) (now lowest) (now «spare_heads») (now «spare_flows»))) × (done + count ≤ 1000000) × (now t ≡ constantSums (now job)) ⌝ }
-    ensures { λ r. ⌜ (resultOf r (stateIn n (six (now (heads .exit)) (now (flows .exit)) (now (highest .exit)) (now (lowest .exit)) (now («spare_heads» .exit)) (now («spare_flows» .exit)))) ≡ steps (jobOf (now (job .entry))) count done (stateIn n (six (now (heads .entry)) (now (flows .entry)) (now (highest .entry)) (now (lowest .entry)) (now («spare_heads» .entry)) (now («spare_flows» .entry)))))
-        × (SameRest n (six (now (heads .entry)) (now (flows .entry)) (now (highest .entry)) (now (lowest .entry)) (now («spare_heads» .entry)) (now («spare_flows» .entry))) (six (now (heads .exit)) (now (flows .exit)) (now (highest .exit)) (now (lowest .exit)) (now («spare_heads» .exit)) (now («spare_flows» .exit)))) ⌝ }
+    ensures { λ r. ⌜ Runs (now (job .entry)) n done count (six (now (heads .entry)) (now (flows .entry)) (now (highest .entry)) (now (lowest .entry)) (now («spare_heads» .entry)) (now («spare_flows» .entry))) (six (now (heads .exit)) (now (flows .exit)) (now (highest .exit)) (now (lowest .exit)) (now («spare_heads» .exit)) (now («spare_flows» .exit))) r ⌝ }
 {
     let mut i = 0;
-    while i < count {
-        let m = done + i;
-        let step = (m + 1) as usize;
-        let found = super::step::advance(
+    while i + 1 < count {
+        let ended = super::step::two_steps(
             job,
             n,
-            step,
+            done + i,
             t,
             heads,
             flows,
@@ -49,12 +44,25 @@ pub fn run(
             spare_heads,
             spare_flows,
         );
-        match found {
-            Scan::Sound => {}
-            Scan::NotFinite(_) => return Ended { steps: m, found },
-            Scan::Parted(_) => return Ended { steps: m, found },
+        let found = ended.found;
+        if super::step::stops(found) {
+            return ended;
         }
-        i += 1;
+        i += 2;
+    }
+    if i < count {
+        return super::step::one_step(
+            job,
+            n,
+            done + i,
+            t,
+            heads,
+            flows,
+            highest,
+            lowest,
+            spare_heads,
+            spare_flows,
+        );
     }
     Ended {
         steps: done + i,

@@ -1,13 +1,49 @@
-// One step over the six rows.
+// One step or two over the six rows.
 ghost use mathlib.Core.Path.{_≡_};
-ghost use Prim.Native.Nat.{ℕ, _≤_};
+ghost use Prim.Native.Nat.{ℕ, _+_, _≤_};
 ghost use lib.ListN.{length};
 ghost use Rattle.loops.specs.Loops.{fill};
+ghost use Rattle.job.specs.Job.{sections};
+ghost use Rattle.job.specs.Format.{jobOf, initialTable};
 ghost use Rattle.rows.specs.Rows.{entry, raisedAt, loweredAt};
-ghost use Rattle.march.specs.March.{constantSums};
+ghost use Rattle.rows.specs.Faults.{foundFault, firstFault};
+ghost use Rattle.march.specs.March.{Lent, constantSums, newSection};
 ghost use Rattle.surge.specs.Answers.{six};
-ghost use Rattle.surge.specs.Inner.{Ready, Stepped};
+ghost use Rattle.surge.specs.Inner as inner;
+use super::run::Ended;
 use rows::Scan;
+
+// Whether a scan found a fault.
+pub fn stops(found: Scan) -> bool
+    ensures { λ r. ⌜ r ≡ inner.stops found ⌝ }
+{
+    match found {
+        Scan::Sound => false,
+        Scan::NotFinite(_) => true,
+        Scan::Parted(_) => true,
+    }
+}
+
+// Works out the heads and flows of a step in the new rows, and scans them; t has T of each node.
+fn work_out(
+    job: &[u8],
+    n: usize,
+    step: usize,
+    t: &[f64; 32],
+    heads: &[f64],
+    flows: &[f64],
+    new_heads: &mut [f64],
+    new_flows: &mut [f64],
+) -> Scan
+    requires { ⌜ (Lent (now job) (now heads) (now flows)) × (1 ≤ step) × (now t ≡ constantSums (now job)) ⌝ }
+    requires { ⌜ (n ≡ sections (jobOf (now job))) × (n ≤ length (now «new_heads»)) × (n ≤ length (now «new_flows»)) ⌝ }
+    ensures { λ found. ⌜ (now («new_heads» .exit) ≡ fill (λ (s : ℕ). newSection (now (job .entry)) step (now (heads .entry)) (now (flows .entry)) s .head) (now («new_heads» .entry)) 0 (sections (jobOf (now (job .entry)))))
+        × (now («new_flows» .exit) ≡ fill (λ (s : ℕ). newSection (now (job .entry)) step (now (heads .entry)) (now (flows .entry)) s .flow) (now («new_flows» .entry)) 0 (sections (jobOf (now (job .entry)))))
+        × (foundFault found ≡ firstFault (initialTable (now (job .entry))) (now («new_heads» .exit)) (now («new_flows» .exit)) n) ⌝ }
+{
+    march::pipes::work_out(job, step, t, heads, flows, new_heads, new_flows);
+    rows::scan(new_heads, new_flows, job::pairs::table(job, 3), n)
+}
 
 // Takes the new heads and flows over, and the envelopes with them.
 fn take_over(
@@ -32,11 +68,11 @@ fn take_over(
     rows::lower(lowest, new_heads, n);
 }
 
-// Step number `step` of a job of n sections; t has T of each node.
-pub fn advance(
+// The step after `done` steps of a job of n sections; t has T of each node.
+pub fn one_step(
     job: &[u8],
     n: usize,
-    step: usize,
+    done: u64,
     t: &[f64; 32],
     heads: &mut [f64],
     flows: &mut [f64],
@@ -44,18 +80,58 @@ pub fn advance(
     lowest: &mut [f64],
     spare_heads: &mut [f64],
     spare_flows: &mut [f64],
-) -> Scan
-    requires { ⌜ (Ready (now job) n (six (now heads) (now flows) (now highest) (now lowest) (now «spare_heads») (now «spare_flows»))) × (1 ≤ step) × (now t ≡ constantSums (now job)) ⌝ }
-    ensures { λ found. ⌜ Stepped (now (job .entry)) n step (six (now (heads .entry)) (now (flows .entry)) (now (highest .entry)) (now (lowest .entry)) (now («spare_heads» .entry)) (now («spare_flows» .entry))) (six (now (heads .exit)) (now (flows .exit)) (now (highest .exit)) (now (lowest .exit)) (now («spare_heads» .exit)) (now («spare_flows» .exit))) found ⌝ }
+) -> Ended
+    requires { ⌜ (inner.Ready (now job) n (six (now heads) (now flows) (now highest) (now lowest) (now «spare_heads») (now «spare_flows»))) × (done + 1 ≤ 1000000) × (now t ≡ constantSums (now job)) ⌝ }
+    ensures { λ r. ⌜ inner.Runs (now (job .entry)) n done 1 (six (now (heads .entry)) (now (flows .entry)) (now (highest .entry)) (now (lowest .entry)) (now («spare_heads» .entry)) (now («spare_flows» .entry))) (six (now (heads .exit)) (now (flows .exit)) (now (highest .exit)) (now (lowest .exit)) (now («spare_heads» .exit)) (now («spare_flows» .exit))) r ⌝ }
 {
-    march::pipes::work_out(job, step, t, heads, flows, spare_heads, spare_flows);
-    let found = rows::scan(spare_heads, spare_flows, job::pairs::table(job, 3), n);
-    match found {
-        Scan::Sound => {
-            take_over(n, spare_heads, spare_flows, heads, flows, highest, lowest);
-            Scan::Sound
-        }
-        Scan::NotFinite(_) => found,
-        Scan::Parted(_) => found,
+    let step = (done + 1) as usize;
+    let found = work_out(job, n, step, t, heads, flows, spare_heads, spare_flows);
+    if stops(found) {
+        return Ended { steps: done, found };
+    }
+    take_over(n, spare_heads, spare_flows, heads, flows, highest, lowest);
+    Ended {
+        steps: done + 1,
+        found,
+    }
+}
+
+// The two steps after `done`: the second is worked out from the spare rows back into the rows of
+// heads and flows, so that nothing is copied.
+pub fn two_steps(
+    job: &[u8],
+    n: usize,
+    done: u64,
+    t: &[f64; 32],
+    heads: &mut [f64],
+    flows: &mut [f64],
+    highest: &mut [f64],
+    lowest: &mut [f64],
+    spare_heads: &mut [f64],
+    spare_flows: &mut [f64],
+) -> Ended
+    requires { ⌜ (inner.Ready (now job) n (six (now heads) (now flows) (now highest) (now lowest) (now «spare_heads») (now «spare_flows»))) × (done + 2 ≤ 1000000) × (now t ≡ constantSums (now job)) ⌝ }
+    ensures { λ r. ⌜ inner.Runs (now (job .entry)) n done 2 (six (now (heads .entry)) (now (flows .entry)) (now (highest .entry)) (now (lowest .entry)) (now («spare_heads» .entry)) (now («spare_flows» .entry))) (six (now (heads .exit)) (now (flows .exit)) (now (highest .exit)) (now (lowest .exit)) (now («spare_heads» .exit)) (now («spare_flows» .exit))) r ⌝ }
+{
+    let step = (done + 1) as usize;
+    let first = work_out(job, n, step, t, heads, flows, spare_heads, spare_flows);
+    if stops(first) {
+        return Ended {
+            steps: done,
+            found: first,
+        };
+    }
+    let second = work_out(job, n, step + 1, t, spare_heads, spare_flows, heads, flows);
+    if stops(second) {
+        take_over(n, spare_heads, spare_flows, heads, flows, highest, lowest);
+        return Ended {
+            steps: done + 1,
+            found: second,
+        };
+    }
+    rows::envelopes::over_two(highest, lowest, spare_heads, heads, n);
+    Ended {
+        steps: done + 2,
+        found: second,
     }
 }

@@ -5,7 +5,7 @@ use borrow.Author.Needs.{needs}
 use Rattle.recurrence.specs.Calls.{Rows}
 use Rattle.recurrence.proofs.RowLaws.{Lengths, enough-lengths}
 use Rattle.surge.specs.Answers.{six}
-use Rattle.surge.proofs.Underway.{SameSizes, enough-kept}
+use Rattle.surge.proofs.Runs.{SameSizes, enough-kept}
 use Rattle.surge.proofs.Left.{run-left}
 use Rattle.surge.proofs.carry_on.Statement.{statement}
 use Rattle.surge.proofs.carry_on.Tie as tie
@@ -36,7 +36,7 @@ returns c =
     let d = c .before .before .before .before .before .before .before .before .before .before .before .before .before .before .before .before .before .before .before .before in
     let s = c .before .before .before .before .before .before .before .before .before .before .before .before .before .before .before .before .before .before .before .before .before .before .before .before .before .before .before .before .before .before .before .before .before .before .before .before in
     let e = c .before .before .before .before .before .clear-spare .ensures in
-    run-left _ _ (lent s) (s .pre .0 .count) (ran d) (d .run .ensures .1) (long d) _ (d .run .result) (d .run .ensures .0) _ (c .answer-of .ensures _) (e .0) (e .1)
+    run-left _ _ (lent s) (s .pre .0 .count) (ran d) (d .run .ensures .rest) (long d) _ (d .run .result) (d .run .ensures .result-is) _ (c .answer-of .ensures _) (e .0) (e .1)
 
 pub carry-on-spec : {M : Type 1} → statement M
 carry-on-spec =

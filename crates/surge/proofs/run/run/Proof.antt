@@ -1,13 +1,11 @@
--- `surge::run::run` meets its contract: before each step the rows are underway, and a stop or the last step ends the run. Assumes nothing.
-use mathlib.Core.Path.{_≡_, refl, ap, _∙_}
+-- `surge::run::run` meets its contract: before each turn the rows are underway; a stop, the last single step or the end of the loop ends the run. Assumes nothing.
+use mathlib.Core.Path.{_≡_, sym, _∙_}
 use Prim.Native.Nat.{ℕ, _+_, _-_, _≤_, _<_}
 use native.Mathlib.Omega.{arith}
 use borrow.Author.Needs.{needs}
 use Rattle.recurrence.specs.Calls.{Rows}
-use Rattle.rows.specs.Faults.{foundFault}
 use Rattle.surge.specs.Answers.{six}
-use Rattle.surge.specs.Inner.{endingOf}
-use Rattle.surge.proofs.Underway.{SameSizes, enough-kept, Underway, way-none, way-next, way-stop, way-done}
+use Rattle.surge.proofs.Runs.{SameSizes, enough-kept, Underway, way-none, way-next, way-stop, way-last, way-done}
 use Rattle.surge.proofs.run.run.Statement.{statement}
 use Rattle.surge.proofs.run.run.Tie as tie
 
@@ -21,46 +19,57 @@ abbrev μ-loop : tie.MeasureT-loop
 loop-holds : tie.Need-loop-holds Inv-loop μ-loop
 loop-holds c = way-none _ _ _ _ _
 
-advance-requires : tie.Need-advance-requires Inv-loop μ-loop
-advance-requires c κs =
-    let s = c .before .before .before .before .before .before .before .before .before .before .before .before .before .before .before in
-    let u = c .before .before .before .before .before .before .before .loop .inv in
-    (record { accepted = s .pre .0 .accepted; count = s .pre .0 .count; enough = enough-kept _ _ _ (u .sizes) (s .pre .0 .enough) }, search needs, s .pre .2)
+abbrev begin : tie.At-loop Inv-loop μ-loop → tie.Start Inv-loop μ-loop
+begin c = c .before .before .before .before .before .before .before .before
 
--- the rows keep their lengths over a step
-sizes : (c : tie.After-slice-known12 Inv-loop μ-loop)
-    → SameSizes (six (c .before .before .before .before .before .before .before .before .before .before .before .before .before .before .before .before .before .before .before .before .before .before .before .before .before .before .before .before .args .heads .now) (c .before .before .before .before .before .before .before .before .before .before .before .before .before .before .before .before .before .before .before .before .before .before .before .before .before .before .before .before .args .flows .now) (c .before .before .before .before .before .before .before .before .before .before .before .before .before .before .before .before .before .before .before .before .before .before .before .before .before .before .before .before .args .highest .now) (c .before .before .before .before .before .before .before .before .before .before .before .before .before .before .before .before .before .before .before .before .before .before .before .before .before .before .before .before .args .lowest .now) (c .before .before .before .before .before .before .before .before .before .before .before .before .before .before .before .before .before .before .before .before .before .before .before .before .before .before .before .before .args .spare-heads .now) (c .before .before .before .before .before .before .before .before .before .before .before .before .before .before .before .before .before .before .before .before .before .before .before .before .before .before .before .before .args .spare-flows .now))
-    (six (c .before .before .before .before .before .before .before .before .before .before .before .before .advance .last .1 .1 .1 .1 .0) (c .before .before .before .before .before .before .before .before .before .before .before .before .advance .last .1 .1 .1 .1 .1 .0) (c .before .before .before .before .before .before .before .before .before .before .before .before .advance .last .1 .1 .1 .1 .1 .1 .0) (c .before .before .before .before .before .before .before .before .before .before .before .before .advance .last .1 .1 .1 .1 .1 .1 .1 .0) (c .before .before .before .before .before .before .before .before .before .before .before .before .advance .last .1 .1 .1 .1 .1 .1 .1 .1 .0) (c .before .before .before .before .before .before .before .before .before .before .before .before .advance .last .1 .1 .1 .1 .1 .1 .1 .1 .1 .0))
+-- the loop where two steps are done, and where the last is
+abbrev turn : tie.After-two-steps Inv-loop μ-loop → tie.At-loop Inv-loop μ-loop
+turn c = c .before .before .before .before .before .before .before .before
+
+two-steps-requires : tie.Need-two-steps-requires Inv-loop μ-loop
+two-steps-requires c κs =
+    let a = c .before .before .before .before .before .before .before in
+    let s = begin a in
+    let test = c .before .before .before .before .before .before .loop-test .taken in
+    (record { accepted = s .pre .0 .accepted; count = s .pre .0 .count; enough = enough-kept _ _ _ (a .loop .inv .sizes) (s .pre .0 .enough) }, omega (arith, s .pre .1, test), s .pre .2)
+
+-- the rows keep their lengths over two steps
+sizes : (c : tie.After-two-steps Inv-loop μ-loop)
+    → SameSizes (six (turn c .loop .heads) (turn c .loop .flows) (turn c .loop .highest) (turn c .loop .lowest) (turn c .loop .spare-heads) (turn c .loop .spare-flows))
+    (six (c .two-steps .last .1 .1 .1 .1 .0) (c .two-steps .last .1 .1 .1 .1 .1 .0) (c .two-steps .last .1 .1 .1 .1 .1 .1 .0) (c .two-steps .last .1 .1 .1 .1 .1 .1 .1 .0) (c .two-steps .last .1 .1 .1 .1 .1 .1 .1 .1 .0) (c .two-steps .last .1 .1 .1 .1 .1 .1 .1 .1 .1 .0))
 sizes c =
-    let z = c .before .before .before .before .before .before .before .before .before .before .before .before .before .before .before .before .before .before .before .before .loop .inv .sizes in
-    let k = c .before .before .before .before .before .before .before .before .before .before .before .before .advance .kept .1 .1 .1 .1 in
-    record {
-      heads-size = k .0 ∙ z .heads-size;
-      flows-size = k .1 .0 ∙ z .flows-size;
-      highest-size = k .1 .1 .0 ∙ z .highest-size;
-      lowest-size = k .1 .1 .1 .0 ∙ z .lowest-size;
-      spare-heads-size = k .1 .1 .1 .1 .0 ∙ z .spare-heads-size;
-      spare-flows-size = k .1 .1 .1 .1 .1 .0 ∙ z .spare-flows-size;
-    }
+    let k = c .two-steps .kept .1 .1 .1 .1 in
+    record { heads-size = k .0; flows-size = k .1 .0; highest-size = k .1 .1 .0; lowest-size = k .1 .1 .1 .0; spare-heads-size = k .1 .1 .1 .1 .0; spare-flows-size = k .1 .1 .1 .1 .1 .0 }
 
 loop-again : tie.Need-loop-again Inv-loop μ-loop
 loop-again c =
-    way-next _ _ _ _ _ (c .before .before .before .before .before .before .before .before .before .before .before .before .before .before .before .before .before .before .before .before .before .before .loop .inv) (c .before .before .before .before .before .before .before .before .before .before .before .before .before .before .before .before .before .before .before .before .before .loop-test .taken) (c .before .before .before .before .before .before .before .before .before .before .before .before .before .before .advance .ensures) (c .enum-told .given .1) (sizes (c .before .before))
+    let v = c .before .before .before .before .before .before .before .before .before .before .before .before .before .before in
+    let test = c .before .before .before .before .before .before .before .before .before .before .before .before .before .before .before .before .before .before .before .before .before .loop-test .taken in
+    way-next _ _ _ _ _ (turn v .loop .inv) (omega (arith, test)) (sizes v) (sym (c .before .stops .ensures) ∙ c .if1 .left) (v .two-steps .ensures)
 
 returns : tie.Need-returns Inv-loop μ-loop
-unfolding foundFault endingOf
 returns c =
-    way-stop _ _ _ _ _ (c .before .before .before .before .before .before .before .before .before .before .before .before .before .before .before .before .before .before .before .before .before .before .loop .inv) (c .before .before .before .before .before .before .before .before .before .before .before .before .before .before .before .before .before .before .before .before .before .loop-test .taken) (c .before .before .before .before .before .before .before .before .before .before .before .before .before .before .advance .ensures) (ap foundFault (c .enum-told2 .given .1)) (ap endingOf (c .enum-told2 .given .1))
+    let v = c .before .before .before .before .before .before .before .before .before .before .before .before .before .before in
+    let test = c .before .before .before .before .before .before .before .before .before .before .before .before .before .before .before .before .before .before .before .before .before .loop-test .taken in
+    way-stop _ _ _ _ _ (turn v .loop .inv) (omega (arith, test)) (sym (c .before .stops .ensures) ∙ c .if1 .taken) (v .two-steps .ensures)
+
+one-step-requires : tie.Need-one-step-requires Inv-loop μ-loop
+one-step-requires c κs =
+    let a = c .before .before .before .before .before .before .before .before in
+    let s = begin a in
+    let test = c .before .before .before .before .before .before .if2 .taken in
+    (record { accepted = s .pre .0 .accepted; count = s .pre .0 .count; enough = enough-kept _ _ _ (a .loop .inv .sizes) (s .pre .0 .enough) }, omega (arith, s .pre .1, test), s .pre .2)
 
 returns-2 : tie.Need-returns-2 Inv-loop μ-loop
-unfolding foundFault endingOf
 returns-2 c =
-    way-stop _ _ _ _ _ (c .before .before .before .before .before .before .before .before .before .before .before .before .before .before .before .before .before .before .before .before .before .before .loop .inv) (c .before .before .before .before .before .before .before .before .before .before .before .before .before .before .before .before .before .before .before .before .before .loop-test .taken) (c .before .before .before .before .before .before .before .before .before .before .before .before .before .before .advance .ensures) (ap foundFault (c .enum-told3 .given .1)) (ap endingOf (c .enum-told3 .given .1))
+    let v = c .before .before .before .before .before .before .before .before .before .before .before .before in
+    let a = c .before .before .before .before .before .before .before .before .before .before .before .before .before .before .before .before .before .before .before .before .before in
+    let test = c .before .before .before .before .before .before .before .before .before .before .before .before .before .before .before .before .before .before .before .if2 .taken in
+    let over = c .before .before .before .before .before .before .before .before .before .before .before .before .before .before .before .before .before .before .before .before .loop-test .left in
+    way-last _ _ _ _ _ (a .loop .inv) (omega (arith, test, over)) (v .one-step .ensures)
 
 returns-3 : tie.Need-returns-3 Inv-loop μ-loop
-returns-3 c =
-    let u = c .before .loop .inv in
-    (way-done _ _ _ _ _ u (c .loop-test .left), u .rest)
+returns-3 c = way-done _ _ _ _ _ (c .before .before .loop .inv) (c .if2 .left)
 
 pub run-spec : {M : Type 1} → statement M
 run-spec =
@@ -71,9 +80,8 @@ run-spec =
     loop-holds
     (λ c. search needs)
     (λ c. search needs)
-    advance-requires
-    (λ c. search needs)
-    (λ c. search needs)
+    two-steps-requires
+    (λ c κs. search needs)
     (λ c. search needs)
     (λ c. search needs)
     (λ c. search needs)
@@ -83,15 +91,16 @@ run-spec =
     returns
     (λ c. search needs)
     (λ c. search needs)
+    loop-again
+    (λ c. search needs)
+    one-step-requires
+    (λ c. search needs)
     (λ c. search needs)
     (λ c. search needs)
     (λ c. search needs)
     (λ c. search needs)
     (λ c. search needs)
     returns-2
-    (λ c. search needs)
-    (λ c. search needs)
-    loop-again
     (λ c. search needs)
     (λ c. search needs)
     (λ c. search needs)

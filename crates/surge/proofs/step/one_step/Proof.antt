@@ -1,0 +1,71 @@
+-- `surge::step::one_step` meets its contract: a step worked out in the spare rows, and taken over where its scan finds no fault. Assumes nothing.
+use mathlib.Core.Path.{_≡_, sym, _∙_}
+use native.Mathlib.Omega.{arith}
+use borrow.Author.Needs.{needs}
+use Rattle.recurrence.specs.Calls.{Rows}
+use Rattle.recurrence.proofs.RowLaws.{Lengths, enough-lengths}
+use Rattle.surge.specs.Answers.{six}
+use Rattle.surge.proofs.Rewritten.{one-stops, one-done}
+use Rattle.surge.proofs.step.one_step.Statement.{statement}
+use Rattle.surge.proofs.step.one_step.Tie as tie
+
+-- the rows as they are lent, and their lengths
+abbrev lent : tie.Start → Rows
+lent c = six (c .args .heads .now) (c .args .flows .now) (c .args .highest .now) (c .args .lowest .now) (c .args .spare-heads .now) (c .args .spare-flows .now)
+
+long : (c : tie.Start) → Lengths (c .args .n) (lent c)
+long c = enough-lengths (c .args .n) (lent c) (c .pre .0 .enough)
+
+abbrev begin : tie.After-work-out → tie.Start
+begin c = c .before .before .before .before .before .before .before .before .before .before .before .before
+
+work-out-requires : tie.Need-work-out-requires
+work-out-requires c κs =
+    let s = c .before .before .before .before .before .before .before .before .before .before .before in
+    let l = long s in
+    let n = s .pre .0 .count in
+    ((record { accepted = s .pre .0 .accepted; heads-long = omega arith; flows-long = omega arith }, search needs, s .pre .2), (n, l .spare-heads, l .spare-flows))
+
+returns : tie.Need-returns
+returns c =
+    let w = c .before .before .before .before .before .before in
+    let s = begin w in
+    let e = w .work-out .ensures in
+    one-stops _ _ _ (lent s) (s .pre .0) _ _ (e .0) (e .1) _ (e .2) (sym (c .before .stops .ensures) ∙ c .if1 .taken)
+
+take-over-requires : tie.Need-take-over-requires
+take-over-requires c κs =
+    let w = c .before .before .before .before .before .before .before .before .before .before .before .before in
+    let l = long (begin w) in
+    let k = w .work-out .kept .1 .1 .1 .1 .1 .1 in
+    ((omega (arith, k .0), omega (arith, k .1 .0)), (l .heads, l .flows, l .highest, l .lowest))
+
+returns-2 : tie.Need-returns-2
+returns-2 c =
+    let w = c .before .before .before .before .before .before .before .before .before .before .before .before .before .before .before .before .before .before .before .before .before in
+    let s = begin w in
+    let e = w .work-out .ensures in
+    let t = c .before .before .before .before .before .before .before .before .take-over .ensures in
+    one-done _ _ _ (lent s) (s .pre .0) _ _ (e .0) (e .1) _ (e .2) (sym (c .before .before .before .before .before .before .before .before .before .before .before .before .before .before .before .before .stops .ensures) ∙ c .before .before .before .before .before .before .before .before .before .before .before .before .before .before .before .if1 .left) (t .0) (t .1) (t .2) (t .3)
+
+pub one-step-spec : {M : Type 1} → statement M
+one-step-spec =
+    tie.close
+    (tie.spec
+    (λ c. search needs)
+    work-out-requires
+    (λ c κs. search needs)
+    (λ c. search needs)
+    (λ c. search needs)
+    (λ c. search needs)
+    (λ c. search needs)
+    returns
+    take-over-requires
+    (λ c. search needs)
+    (λ c. search needs)
+    (λ c. search needs)
+    (λ c. search needs)
+    (λ c. search needs)
+    (λ c. search needs)
+    (λ c. search needs)
+    returns-2)
