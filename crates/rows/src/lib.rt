@@ -46,44 +46,6 @@ pub fn clear_row(dst: &mut [f64], n: usize)
     }
 }
 
-// The greater of the highest head so far and a head.
-fn greater(highest: f64, head: f64) -> f64
-    ensures { λ r. ⌜ r ≡ row.raised highest head ⌝ }
-{
-    if highest < head { head } else { highest }
-}
-
-// The lesser of the lowest head so far and a head.
-fn lesser(lowest: f64, head: f64) -> f64
-    ensures { λ r. ⌜ r ≡ row.lowered lowest head ⌝ }
-{
-    if head < lowest { head } else { lowest }
-}
-
-// The upper envelope over the first n sections. It stores always, so that the loop has no branch.
-pub fn raise(highs: &mut [f64], heads: &[f64], n: usize)
-    requires { ⌜ (n ≤ length (now highs)) × (n ≤ length (now heads)) ⌝ }
-    ensures { λ _. ⌜ now (highs .exit) ≡ fill (row.raisedAt (now (highs .entry)) (now (heads .entry))) (now (highs .entry)) 0 n ⌝ }
-{
-    let mut i = 0;
-    while i < n {
-        highs[i] = greater(highs[i], heads[i]);
-        i += 1;
-    }
-}
-
-// The lower envelope over the first n sections.
-pub fn lower(lows: &mut [f64], heads: &[f64], n: usize)
-    requires { ⌜ (n ≤ length (now lows)) × (n ≤ length (now heads)) ⌝ }
-    ensures { λ _. ⌜ now (lows .exit) ≡ fill (row.loweredAt (now (lows .entry)) (now (heads .entry))) (now (lows .entry)) 0 n ⌝ }
-{
-    let mut i = 0;
-    while i < n {
-        lows[i] = lesser(lows[i], heads[i]);
-        i += 1;
-    }
-}
-
 // ---- the scan
 
 // The floor head of section s, from the bytes of table 4.

@@ -13,26 +13,30 @@ ghost use Rattle.recurrence.specs.Scan.{acceptable};
 ghost use Rattle.recurrence.specs.Calls.{stateIn};
 ghost use Rattle.surge.specs.Answers.{six};
 
-// The initial heads of table 4 into a row.
-fn write_heads(initial: &[u8], row: &mut [f64], n: usize)
-    requires { ⌜ (initialFits (now initial) ≡ true) × (n * 24 ≤ length (now initial)) × (n ≤ length (now row)) ⌝ }
-    ensures { λ _. ⌜ now (row .exit) ≡ fill (λ (s : ℕ). initialOf (now (initial .entry)) s .head) (now (row .entry)) 0 n ⌝ }
+// The initial heads and flows of table 4 into the rows of heads and flows, and the heads into both envelopes.
+fn write_initial(
+    initial: &[u8],
+    n: usize,
+    heads: &mut [f64],
+    flows: &mut [f64],
+    highest: &mut [f64],
+    lowest: &mut [f64],
+)
+    requires { ⌜ (initialFits (now initial) ≡ true) × (n * 24 ≤ length (now initial)) ⌝ }
+    requires { ⌜ (n ≤ length (now heads)) × (n ≤ length (now flows)) × (n ≤ length (now highest)) × (n ≤ length (now lowest)) ⌝ }
+    ensures { λ _. ⌜ (now (heads .exit) ≡ fill (λ (s : ℕ). initialOf (now (initial .entry)) s .head) (now (heads .entry)) 0 n)
+        × (now (flows .exit) ≡ fill (λ (s : ℕ). initialOf (now (initial .entry)) s .flow) (now (flows .entry)) 0 n)
+        × (now (highest .exit) ≡ fill (λ (s : ℕ). initialOf (now (initial .entry)) s .head) (now (highest .entry)) 0 n)
+        × (now (lowest .exit) ≡ fill (λ (s : ℕ). initialOf (now (initial .entry)) s .head) (now (lowest .entry)) 0 n) ⌝ }
 {
     let mut s = 0;
     while s < n {
-        row[s] = job::values::head_at(initial, s);
-        s += 1;
-    }
-}
-
-// The initial flows of table 4 into a row.
-fn write_flows(initial: &[u8], row: &mut [f64], n: usize)
-    requires { ⌜ (initialFits (now initial) ≡ true) × (n * 24 ≤ length (now initial)) × (n ≤ length (now row)) ⌝ }
-    ensures { λ _. ⌜ now (row .exit) ≡ fill (λ (s : ℕ). initialOf (now (initial .entry)) s .flow) (now (row .entry)) 0 n ⌝ }
-{
-    let mut s = 0;
-    while s < n {
-        row[s] = job::values::flow_at(initial, s);
+        let head = job::values::head_at(initial, s);
+        let flow = job::values::flow_at(initial, s);
+        heads[s] = head;
+        flows[s] = flow;
+        highest[s] = head;
+        lowest[s] = head;
         s += 1;
     }
 }
@@ -54,10 +58,7 @@ pub fn write_start(
         × (now (lowest .exit) ≡ fill (λ (s : ℕ). initialAt (jobOf (now (job .entry))) s .head) (now (lowest .entry)) 0 n) ⌝ }
 {
     let initial = job::pairs::table(job, 3);
-    write_heads(initial, heads, n);
-    write_flows(initial, flows, n);
-    write_heads(initial, highest, n);
-    write_heads(initial, lowest, n);
+    write_initial(initial, n, heads, flows, highest, lowest);
 }
 
 // Both spare rows +0 up to the section count.

@@ -5,7 +5,7 @@ ghost use lib.ListN.{length};
 ghost use Rattle.loops.specs.Loops.{fill};
 ghost use Rattle.job.specs.Job.{sections};
 ghost use Rattle.job.specs.Format.{jobOf, initialTable};
-ghost use Rattle.rows.specs.Rows.{entry, raisedAt, loweredAt};
+ghost use Rattle.rows.specs.Rows.{entry};
 ghost use Rattle.rows.specs.Faults.{foundFault, firstFault};
 ghost use Rattle.march.specs.March.{Lent, constantSums, newSection};
 ghost use Rattle.surge.specs.Answers.{six};
@@ -45,27 +45,14 @@ fn work_out(
     rows::scan(new_heads, new_flows, job::pairs::table(job, 3), n)
 }
 
-// Takes the new heads and flows over, and the envelopes with them.
-fn take_over(
-    n: usize,
-    new_heads: &[f64],
-    new_flows: &[f64],
-    heads: &mut [f64],
-    flows: &mut [f64],
-    highest: &mut [f64],
-    lowest: &mut [f64],
-)
-    requires { ⌜ (n ≤ length (now «new_heads»)) × (n ≤ length (now «new_flows»)) ⌝ }
-    requires { ⌜ (n ≤ length (now heads)) × (n ≤ length (now flows)) × (n ≤ length (now highest)) × (n ≤ length (now lowest)) ⌝ }
+// The state out of the spare rows into the rows of heads and flows.
+fn take_over(n: usize, new_heads: &[f64], new_flows: &[f64], heads: &mut [f64], flows: &mut [f64])
+    requires { ⌜ (n ≤ length (now «new_heads»)) × (n ≤ length (now «new_flows»)) × (n ≤ length (now heads)) × (n ≤ length (now flows)) ⌝ }
     ensures { λ _. ⌜ (now (heads .exit) ≡ fill (entry (now («new_heads» .entry))) (now (heads .entry)) 0 n)
-        × (now (flows .exit) ≡ fill (entry (now («new_flows» .entry))) (now (flows .entry)) 0 n)
-        × (now (highest .exit) ≡ fill (raisedAt (now (highest .entry)) (now («new_heads» .entry))) (now (highest .entry)) 0 n)
-        × (now (lowest .exit) ≡ fill (loweredAt (now (lowest .entry)) (now («new_heads» .entry))) (now (lowest .entry)) 0 n) ⌝ }
+        × (now (flows .exit) ≡ fill (entry (now («new_flows» .entry))) (now (flows .entry)) 0 n) ⌝ }
 {
     rows::copy_row(new_heads, heads, n);
     rows::copy_row(new_flows, flows, n);
-    rows::raise(highest, new_heads, n);
-    rows::lower(lowest, new_heads, n);
 }
 
 // The step after `done` steps of a job of n sections; t has T of each node.
@@ -89,7 +76,8 @@ pub fn one_step(
     if stops(found) {
         return Ended { steps: done, found };
     }
-    take_over(n, spare_heads, spare_flows, heads, flows, highest, lowest);
+    rows::envelopes::over_one(highest, lowest, spare_heads, n);
+    take_over(n, spare_heads, spare_flows, heads, flows);
     Ended {
         steps: done + 1,
         found,
@@ -123,7 +111,8 @@ pub fn two_steps(
     }
     let second = work_out(job, n, step + 1, t, spare_heads, spare_flows, heads, flows);
     if stops(second) {
-        take_over(n, spare_heads, spare_flows, heads, flows, highest, lowest);
+        rows::envelopes::over_one(highest, lowest, spare_heads, n);
+        take_over(n, spare_heads, spare_flows, heads, flows);
         return Ended {
             steps: done + 1,
             found: second,

@@ -23,37 +23,25 @@ fits c =
     let pre = c .before .before .before .before .before .before .pre in
     rw (c .table .ensures) (initial-fits _ (pre .0 .0), omega (arith, initial-length _ (pre .0 .0), pre .0 .1))
 
-write-heads-requires : tie.Need-write-heads-requires
-write-heads-requires c κs = let f = fits (c .before) in (f .0, omega (arith, f .1), omega (arith, c .before .before .before .before .before .before .before .pre .1 .0))
-
-write-flows-requires : tie.Need-write-flows-requires
-write-flows-requires c κs = let f = fits (c .before .before .before .before .before) in (f .0, omega (arith, f .1), omega (arith, c .before .before .before .before .before .before .before .before .before .before .before .pre .1 .1))
-
-write-heads-requires-2 : tie.Need-write-heads-requires-2
-write-heads-requires-2 c κs = let f = fits (c .before .before .before .before .before .before .before .before .before) in (f .0, omega (arith, f .1), omega (arith, c .before .before .before .before .before .before .before .before .before .before .before .before .before .before .before .pre .1 .2))
-
-write-heads-requires-3 : tie.Need-write-heads-requires-3
-write-heads-requires-3 c κs = let f = fits (c .before .before .before .before .before .before .before .before .before .before .before .before .before) in (f .0, omega (arith, f .1), omega (arith, c .before .before .before .before .before .before .before .before .before .before .before .before .before .before .before .before .before .before .before .pre .1 .3))
+write-initial-requires : tie.Need-write-initial-requires
+write-initial-requires c κs =
+    let f = fits (c .before .before .before .before) in
+    let pre = c .before .before .before .before .before .before .before .before .before .before .pre in
+    ((f .0, omega (arith, f .1)), pre .1)
 
 returns : tie.Need-returns
 unfolding initialAt jobOf
 returns c =
-    let t = c .before .before .before .before .before .before .before .before .before .before .before .before .before .before .before .before .table .ensures in (
-      c .before .before .before .before .before .before .before .before .before .before .before .before .before .before .write-heads .ensures ∙ rw t,
-      c .before .before .before .before .before .before .before .before .before .before .write-flows .ensures ∙ rw t,
-      c .before .before .before .before .before .before .write-heads2 .ensures ∙ rw t,
-      c .before .before .write-heads3 .ensures ∙ rw t,
-    )
+    let t = c .before .before .before .before .before .before .before .before .before .before .before .before .before .table .ensures in
+    let w = c .before .before .before .before .before .before .before .before .write-initial .ensures in
+    (w .0 ∙ rw t, w .1 ∙ rw t, w .2 ∙ rw t, w .3 ∙ rw t)
 
 pub write-start-spec : {M : Type 1} → statement M
 write-start-spec =
     tie.close
     (tie.spec
     table-requires
-    write-heads-requires
-    write-flows-requires
-    write-heads-requires-2
-    write-heads-requires-3
+    write-initial-requires
     (λ c. search needs)
     (λ c. search needs)
     (λ c. search needs)

@@ -33,20 +33,30 @@ returns c =
     let e = w .work-out .ensures in
     one-stops _ _ _ (lent s) (s .pre .0) _ _ (e .0) (e .1) _ (e .2) (sym (c .before .stops .ensures) ∙ c .if1 .taken)
 
+over-one-requires : tie.Need-over-one-requires
+over-one-requires c κs =
+    let w = c .before .before .before .before .before .before .before .before .before in
+    let l = long (begin w) in
+    (l .highest, l .lowest, omega (arith, w .work-out .kept .1 .1 .1 .1 .1 .1 .0))
+
 take-over-requires : tie.Need-take-over-requires
 take-over-requires c κs =
-    let w = c .before .before .before .before .before .before .before .before .before .before .before .before in
+    let w = c .before .before .before .before .before .before .before .before .before .before .before .before .before .before .before .before .before .before in
     let l = long (begin w) in
     let k = w .work-out .kept .1 .1 .1 .1 .1 .1 in
-    ((omega (arith, k .0), omega (arith, k .1 .0)), (l .heads, l .flows, l .highest, l .lowest))
+    (omega (arith, k .0), omega (arith, k .1 .0), l .heads, l .flows)
+
+add-t13 : tie.Need-add-t13
+add-t13 c = let s = c .before .before .before .before .before .before .before .before .before .before .before .before .before .before .before .before .before .before .before .before .before .before .before .before .before .before .before .before .before .before .before .before .before .before .before in omega (arith, s .pre .1)
 
 returns-2 : tie.Need-returns-2
 returns-2 c =
-    let w = c .before .before .before .before .before .before .before .before .before .before .before .before .before .before .before .before .before .before .before .before .before in
+    let w = c .before .before .before .before .before .before .before .before .before .before .before .before .before .before .before .before .before .before .before .before .before .before .before in
     let s = begin w in
     let e = w .work-out .ensures in
-    let t = c .before .before .before .before .before .before .before .before .take-over .ensures in
-    one-done _ _ _ (lent s) (s .pre .0) _ _ (e .0) (e .1) _ (e .2) (sym (c .before .before .before .before .before .before .before .before .before .before .before .before .before .before .before .before .stops .ensures) ∙ c .before .before .before .before .before .before .before .before .before .before .before .before .before .before .before .if1 .left) (t .0) (t .1) (t .2) (t .3)
+    let o = c .before .before .before .before .before .before .before .before .before .before .before .before .before .over-one .ensures in
+    let t = c .before .before .before .before .take-over .ensures in
+    one-done _ _ _ (lent s) (s .pre .0) _ _ (e .0) (e .1) _ (e .2) (sym (c .before .before .before .before .before .before .before .before .before .before .before .before .before .before .before .before .before .before .stops .ensures) ∙ c .before .before .before .before .before .before .before .before .before .before .before .before .before .before .before .before .before .if1 .left) (t .0) (t .1) (o .0) (o .1)
 
 pub one-step-spec : {M : Type 1} → statement M
 one-step-spec =
@@ -60,8 +70,9 @@ one-step-spec =
     (λ c. search needs)
     (λ c. search needs)
     returns
+    over-one-requires
     take-over-requires
-    (λ c. search needs)
+    add-t13
     (λ c. search needs)
     (λ c. search needs)
     (λ c. search needs)

@@ -49,29 +49,36 @@ first c = c .before .before .before .before .before .before .before .before .bef
 abbrev go-on : tie.After-work-out2 → tie.Else1
 go-on c = c .before .before .before .before .before
 
+over-one-requires : tie.Need-over-one-requires
+over-one-requires c κs =
+    let w = first (c .before .before .before .before .before .before .before .before .before) in
+    let l = long (begin w) in
+    (l .highest, l .lowest, omega (arith, w .work-out .kept .1 .1 .1 .1 .1 .1 .0))
+
 take-over-requires : tie.Need-take-over-requires
 take-over-requires c κs =
-    let v = c .before .before .before .before .before .before .before .before .before .before .before .before in
+    let v = c .before .before .before .before .before .before .before .before .before .before .before .before .before .before .before .before .before .before in
     let w = first v in
     let l = long (begin w) in
     let k = w .work-out .kept .1 .1 .1 .1 .1 .1 in
     let g = v .work-out2 .kept .1 .1 .1 .1 .1 .1 in
-    ((omega (arith, k .0), omega (arith, k .1 .0)), (omega (arith, g .0), omega (arith, g .1 .0), l .highest, l .lowest))
+    (omega (arith, k .0), omega (arith, k .1 .0), omega (arith, g .0), omega (arith, g .1 .0))
 
-add-t47 : tie.Need-add-t47
-add-t47 c = let s = c .before .before .before .before .before .before .before .before .before .before .before .before .before .before .before .before .before .before .before .before .before .before .before .before .before .before .before .before .before .before .before .before .before .before .before .before .before .before .before .before .before .before .before .before in omega (arith, s .pre .1)
+add-t49 : tie.Need-add-t49
+add-t49 c = let s = c .before .before .before .before .before .before .before .before .before .before .before .before .before .before .before .before .before .before .before .before .before .before .before .before .before .before .before .before .before .before .before .before .before .before .before .before .before .before .before .before .before .before .before .before .before .before in omega (arith, s .pre .1)
 
 returns-2 : tie.Need-returns-2
 returns-2 c =
-    let v = c .before .before .before .before .before .before .before .before .before .before .before .before .before .before .before .before .before .before .before .before .before in
+    let v = c .before .before .before .before .before .before .before .before .before .before .before .before .before .before .before .before .before .before .before .before .before .before .before in
     let w = first v in
     let s = begin w in
     let e = w .work-out .ensures in
     let g = go-on v in
     let f = v .work-out2 .ensures in
-    let t = c .before .before .before .before .before .before .before .before .take-over .ensures in
+    let o = c .before .before .before .before .before .before .before .before .before .before .before .before .before .over-one .ensures in
+    let t = c .before .before .before .before .take-over .ensures in
     two-stop-second _ _ _ (lent s) (s .pre .0) _ _ (e .0) (e .1) _ (e .2) (sym (g .before .stops .ensures) ∙ g .if1 .left) _ _ (f .0) (f .1) _ (f .2)
-    (sym (c .before .before .before .before .before .before .before .before .before .before .before .before .before .before .before .before .stops2 .ensures) ∙ c .before .before .before .before .before .before .before .before .before .before .before .before .before .before .before .if2 .taken) (t .0) (t .1) (t .2) (t .3)
+    (sym (c .before .before .before .before .before .before .before .before .before .before .before .before .before .before .before .before .before .before .stops2 .ensures) ∙ c .before .before .before .before .before .before .before .before .before .before .before .before .before .before .before .before .before .if2 .taken) (t .0) (t .1) (o .0) (o .1)
 
 over-two-requires : tie.Need-over-two-requires
 over-two-requires c κs =
@@ -112,8 +119,9 @@ two-steps-spec =
     (λ c. search needs)
     work-out-requires-2
     (λ c κs. search needs)
+    over-one-requires
     take-over-requires
-    add-t47
+    add-t49
     (λ c. search needs)
     (λ c. search needs)
     (λ c. search needs)

@@ -1,7 +1,7 @@
--- `rows::lesser` meets its contract, in each branch by its test. Assumes nothing.
+-- `rows::envelopes::lesser` meets its contract, in each branch by its test. Assumes nothing.
 use Rattle.rows.specs.Rows.{lowered}
-use Rattle.rows.proofs.lesser.Statement.{statement}
-use Rattle.rows.proofs.lesser.Tie as tie
+use Rattle.rows.proofs.envelopes.lesser.Statement.{statement}
+use Rattle.rows.proofs.envelopes.lesser.Tie as tie
 
 returns : tie.Need-returns
 unfolding lowered

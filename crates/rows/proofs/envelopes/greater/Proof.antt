@@ -1,7 +1,7 @@
--- `rows::greater` meets its contract, in each branch by its test. Assumes nothing.
+-- `rows::envelopes::greater` meets its contract, in each branch by its test. Assumes nothing.
 use Rattle.rows.specs.Rows.{raised}
-use Rattle.rows.proofs.greater.Statement.{statement}
-use Rattle.rows.proofs.greater.Tie as tie
+use Rattle.rows.proofs.envelopes.greater.Statement.{statement}
+use Rattle.rows.proofs.envelopes.greater.Tie as tie
 
 returns : tie.Need-returns
 unfolding raised
