@@ -1,4 +1,5 @@
 pub mod WholeLaws
+pub mod MoreDigits
 pub mod Powers
 pub mod Patterns
 pub mod Lead

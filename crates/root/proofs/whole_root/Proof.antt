@@ -1,135 +1,63 @@
--- `root::whole_root` meets its contract: after i turns the root and the rest are those of the leading 2 i digits. Assumes nothing.
-use mathlib.Core.Path.{_≡_, sym, ap, _∙_}
-use mathlib.Core.Logic.{⊎-elim}
-use Prim.Native.Nat.{ℕ, suc, _+_, _-_, _*_, _/_, _%_, _^_, _≤_, _<_}
-use native.Mathlib.Nat.{mul-assoc, mul-comm, mul-mul-mul-comm, pow-suc, le-antisymm}
-use native.Mathlib.Numerals.{add-one}
+-- `root::whole_root` meets its contract: its four steps take the root of the leading 14, 28 and 54 of the 106 digits of m * 2 ^ 52, and of all. Assumes nothing.
+use Prim.Native.Nat.{ℕ, _*_, _/_, _%_, _^_, _≤_, _<_}
 use native.Mathlib.Omega.{arith}
-use lib.Pow.{pow-mono}
-use Rattle.root.proofs.WholeLaws.{square-next, square-twice}
-use Rattle.root.specs.Steps.{LeavesRest}
+use borrow.Author.Needs.{needs}
+use Rattle.root.proofs.WholeLaws.{at-most-root, root-by-rest, root-below}
+use Rattle.root.specs.Steps.{LeavesRest, CanGrow}
 use Rattle.root.proofs.whole_root.Statement.{statement}
 use Rattle.root.proofs.whole_root.Tie as tie
 
--- After i turns: root and rest are those of the leading 2 i digits of m * 2 ^ 52, taken as 106 digits, and left has the others, at its top.
-record After (m root rest left i : ℕ) : Type 0 where
-  turns : i ≤ 53
-  all : (root * root + rest) * 2 ^ 54 + left ≡ m * 4 ^ i
-  room : left < 2 ^ 54
-  small : rest ≤ 2 * root
-  short : root < 2 ^ i
+-- n is from a's square to below that of 2 a, and scale is at most 2 a
+record Ranges (n low scale a : ℕ) : Type 0 where
+  least : a * a ≤ n
+  below : n < 2 * a * (2 * a)
+  short : a ≤ 2 ^ 26
+  positive : 0 < scale
+  fits : scale ≤ 2 * a
+  scale-bound : scale ≤ 2 ^ 26
+  low-digits : low < scale * scale
 
-abbrev Inv-loop : tie.InvT-loop
-Inv-loop m root₀ rest₀ left₀ i₀ root rest left i = After m root rest left i
+-- so n's root is from a to below 2 a
+can-grow : (n root rest low scale a : ℕ) → LeavesRest n root rest → Ranges n low scale a → CanGrow root rest low scale
+can-grow n root rest low scale a l h =
+    let square : root * root ≤ n = omega (arith, l .all) in
+    let least : a ≤ root = at-most-root n root a (root-by-rest n root rest (l .all) (l .small)) (h .least) in
+    let below : root < 2 * a = root-below n root (2 * a) square (h .below) in
+    omega arith
 
-abbrev μ-loop : tie.MeasureT-loop
-μ-loop m root₀ rest₀ left₀ i₀ root rest left i = 53 - i
+second : (c : tie.After-more-digits) → LeavesRest (c .before .before .args .m / 2 ^ 26) (c .more-digits .result .root) (c .more-digits .result .rest)
+second c = omega (arith, c .before .first-digits .ensures, c .more-digits .ensures)
 
--- the bound on the root in a turn, as a number
-bounded : (m root rest left i : ℕ) → After m root rest left i → root < 2 ^ 53
-bounded m root rest left i a = omega (arith, pow-mono (a .turns), a .short)
+third : (c : tie.After-more-digits2) → LeavesRest (c .before .before .before .args .m) (c .more-digits2 .result .root) (c .more-digits2 .result .rest)
+third c = omega (arith, second (c .before), c .more-digits2 .ensures)
 
-four : (m i : ℕ) → m * 4 ^ (i + 1) ≡ 4 * (m * 4 ^ i)
-four m i = ap (λ (x : ℕ). m * 4 ^ x) (add-one i) ∙ ap (λ (x : ℕ). m * x) (pow-suc 4 i) ∙ sym (mul-assoc m (4 ^ i) 4) ∙ mul-comm (m * 4 ^ i) 4
+more-digits-requires : tie.Need-more-digits-requires
+more-digits-requires c κs =
+    let m = c .before .args .m in
+    let r = c .first-digits .result in
+    can-grow (m / 2 ^ 40) (r .root) (r .rest) (m / 2 ^ 26 % 2 ^ 14) (2 ^ 7) (2 ^ 6) (c .first-digits .ensures) (omega arith)
 
-two : (i : ℕ) → 2 ^ (i + 1) ≡ 2 * 2 ^ i
-two i = ap (λ (x : ℕ). 2 ^ x) (add-one i) ∙ pow-suc 2 i ∙ mul-comm (2 ^ i) 2
+more-digits-requires-2 : tie.Need-more-digits-requires-2
+more-digits-requires-2 c κs =
+    let m = c .before .before .args .m in
+    let r = c .more-digits .result in
+    can-grow (m / 2 ^ 26) (r .root) (r .rest) (m % 2 ^ 26) (2 ^ 13) (2 ^ 13) (second c) (omega arith)
 
-twice : (r : ℕ) → r * 2 * (r * 2) ≡ 4 * (r * r)
-twice r = mul-mul-mul-comm r 2 r 2 ∙ mul-comm (r * r) 4
+more-digits-requires-3 : tie.Need-more-digits-requires-3
+more-digits-requires-3 c κs =
+    let m = c .before .before .before .args .m in
+    let r = c .more-digits2 .result in
+    can-grow m (r .root) (r .rest) 0 (2 ^ 26) (2 ^ 26) (third c) (omega arith)
 
-yes-digit : (m root rest left i : ℕ) → After m root rest left i → i < 53 → root * 4 + 1 ≤ rest * 4 + left / 2 ^ 52
-    → After m (root * 2 + 1) (rest * 4 + left / 2 ^ 52 - (root * 4 + 1)) (left % 2 ^ 52 * 4) (i + 1)
-yes-digit m root rest left i a h d =
-    let s : (root * 2 + 1) * (root * 2 + 1) ≡ 4 * (root * root) + 4 * root + 1 = omega (arith, square-next (root * 2), twice root) in record {
-      turns = omega arith;
-      all = omega (arith, four m i, a .all);
-      room = omega arith;
-      small = omega (arith, a .small, a .room);
-      short = omega (arith, two i, a .short);
-    }
-
-no-digit : (m root rest left i : ℕ) → After m root rest left i → i < 53 → rest * 4 + left / 2 ^ 52 < root * 4 + 1
-    → After m (root * 2) (rest * 4 + left / 2 ^ 52) (left % 2 ^ 52 * 4) (i + 1)
-no-digit m root rest left i a h d =
-    let s : root * 2 * (root * 2) ≡ 4 * (root * root) = twice root in record {
-      turns = omega arith;
-      all = omega (arith, four m i, a .all);
-      room = omega arith;
-      small = omega arith;
-      short = omega (arith, two i, a .short);
-    }
-
-finish : (m root rest left i : ℕ) → After m root rest left i → 53 ≤ i → LeavesRest (m * 2 ^ 52) root rest
-finish m root rest left i a h =
-    let e : (root * root + rest) * 2 ^ 54 + left ≡ m * 4 ^ 53 = a .all ∙ ap (λ (x : ℕ). m * 4 ^ x) (le-antisymm (a .turns) h) in
-    record { all = omega (arith, a .room); small = a .small }
-
-loop-holds : tie.Need-loop-holds Inv-loop μ-loop
-loop-holds c = omega arith
-
-bound : (c : tie.At-loop Inv-loop μ-loop) → c .loop .root < 2 ^ 53
-bound c = bounded (c .before .args .m) (c .loop .root) (c .loop .rest) (c .loop .left) (c .loop .i) (c .loop .inv)
-
-mul-t : tie.Need-mul-t Inv-loop μ-loop
-mul-t c = omega (arith, bound (c .before))
-
-add-t : tie.Need-add-t Inv-loop μ-loop
-add-t c = omega (arith, bound (c .before))
-
-mul-left : tie.Need-mul-left Inv-loop μ-loop
-mul-left c = omega arith
-
-mul-d : tie.Need-mul-d Inv-loop μ-loop
-mul-d c = omega (arith, bound (c .before))
-
-add-d : tie.Need-add-d Inv-loop μ-loop
-add-d c = omega (arith, bound (c .before))
-
-mul-root : tie.Need-mul-root Inv-loop μ-loop
-mul-root c = omega (arith, bound (c .before .before))
-
-add-root : tie.Need-add-root Inv-loop μ-loop
-add-root c = omega (arith, bound (c .before .before))
-
-mul-root-2 : tie.Need-mul-root-2 Inv-loop μ-loop
-mul-root-2 c = omega (arith, bound (c .before .before))
-
-add-i : tie.Need-add-i Inv-loop μ-loop
-add-i c = omega arith
-
-loop-less : tie.Need-loop-less Inv-loop μ-loop
-loop-less c = omega arith
-
-loop-again : tie.Need-loop-again Inv-loop μ-loop
-loop-again c =
-    let a = c .before .before in
-    ⊎-elim
-    (λ w. rw (w .1, w .2) (yes-digit (a .before .args .m) (a .loop .root) (a .loop .rest) (a .loop .left) (a .loop .i) (a .loop .inv) (c .before .loop-test .taken) (w .0 .taken)))
-    (λ w. rw (w .1, w .2) (no-digit (a .before .args .m) (a .loop .root) (a .loop .rest) (a .loop .left) (a .loop .i) (a .loop .inv) (c .before .loop-test .taken) (w .0 .left)))
-    (c .if1 .came)
-
-returns : tie.Need-returns Inv-loop μ-loop
-returns c =
-    let a = c .before in
-    finish (a .before .args .m) (a .loop .root) (a .loop .rest) (a .loop .left) (a .loop .i) (a .loop .inv) (c .loop-test .left)
+returns : tie.Need-returns
+returns c = omega (arith, third (c .before), c .more-digits3 .ensures)
 
 pub whole-root-spec : {M : Type 1} → statement M
 whole-root-spec =
     tie.close
     (tie.spec
-    Inv-loop
-    μ-loop
-    loop-holds
-    mul-t
-    add-t
-    mul-left
-    mul-d
-    add-d
-    mul-root
-    add-root
-    mul-root-2
-    add-i
-    loop-less
-    loop-again
+    (λ c κs. search needs)
+    more-digits-requires
+    more-digits-requires-2
+    more-digits-requires-3
     returns)
