@@ -27,7 +27,7 @@ write-initial-requires : tie.Need-write-initial-requires
 write-initial-requires c κs =
     let f = fits (c .before .before .before .before) in
     let pre = c .before .before .before .before .before .before .before .before .before .before .pre in
-    ((f .0, omega (arith, f .1)), pre .1)
+    ((f .0, omega (arith, f .1)), (omega (arith, pre .1 .0), omega (arith, pre .1 .1), omega (arith, pre .1 .2), omega (arith, pre .1 .3)))
 
 returns : tie.Need-returns
 unfolding initialAt jobOf
