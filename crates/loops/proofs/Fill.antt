@@ -3,13 +3,15 @@
 --             fill-step   a turn stores f n at at + n
 -- Of the result:  length-fill; fill-in, what stands in the range; fill-below and fill-above, what stands outside it; take-fill and drop-fill, the same as lists.
 -- `Filled` says the same entry by entry, and `filled` has it of `fill`.
+-- Of several fills:  fill-join   one after the other is one;  fill-two   two entries side by side;  upto-more   more entries, after those stored so far;
+--                    upto-from   a turn of a loop that begins at a
 -- fill-list   what is filled from the first entry on is a list, and then the rest;  fill-part   a part filled and put back is the whole filled from there
 -- Assumes nothing.
 use mathlib.Core.Path.{_≡_, refl, sym, _∙_, ap, subst}
 use mathlib.Core.Logic.{⊎-elim}
 use mathlib.Core.List.{List, [], _∷_, _++_}
-use Prim.Native.Nat.{ℕ, zero, suc, _+_, _<_, _≤_}
-use native.Mathlib.Nat.{le-of-suc-le-suc, not-suc-le-zero, eq-or-lt-of-le, add-assoc, suc-add, zero-add}
+use Prim.Native.Nat.{ℕ, zero, suc, _+_, _-_, _<_, _≤_}
+use native.Mathlib.Nat.{le-of-suc-le-suc, not-suc-le-zero, eq-or-lt-of-le, add-assoc, add-suc, add-zero, suc-add, zero-add}
 use native.Mathlib.Numerals.{add-one}
 use native.Mathlib.Omega.{arith}
 use Rattle.loops.specs.Loops.{fill}
@@ -95,6 +97,41 @@ module _ {A : Type 0} {f : ℕ → A} {old : List A} {at n : ℕ} where
   -- what is not stored yet is the old entry
   pub upto-read : {i : ℕ} {new : List A} → Upto f old at n i new → (d : A) (j : ℕ) → at + i ≤ j → getD new j d ≡ getD old j d
   upto-read {i} {new} u d j h = rw (u .stored) (fill-above f old at d i j h)
+
+-- ---- several fills
+
+module _ {A : Type 0} (f : ℕ → A) where
+  -- from a on, after a
+  pub fill-join : (l : List A) (at a n : ℕ) → fill (λ i. f (a + i)) (fill f l at a) (at + a) n ≡ fill f l at (a + n)
+  unfolding fill
+  fill-join l at a zero = rw (add-zero a)
+  fill-join l at a (suc n) = rw (fill-join l at a n, add-suc a n, add-assoc at a n)
+
+  -- f a and f (a + 1), side by side
+  pub fill-two : (l : List A) (a : ℕ) {at j k : ℕ} {v w : A} → j ≡ at → k ≡ at + 1 → v ≡ f a → w ≡ f (suc a) → set (set l j v) k w ≡ fill (λ i. f (a + i)) l at 2
+  fill-two l a {at} p q e d =
+      let g : ℕ → A = λ i. f (a + i) in
+      fill-step g l at (fill-step g l at (fill-none g l at) (omega arith) (rw (add-zero a) e)) q (rw (add-one a) d)
+
+  -- a of n entries are stored, and then k more
+  pub upto-more :
+      {old new w : List A} {at n a : ℕ} (k : ℕ) → Upto f old at n a new → a + k ≤ n → w ≡ fill (λ i. f (a + i)) new (at + a) k → Upto f old at n (a + k) w
+  upto-more {old} {new} {w} {at} {n} {a} k u l e =
+      record {
+        within = l;
+        long = ap length e ∙ length-fill (λ i. f (a + i)) new (at + a) k ∙ u .long;
+        stored = e ∙ rw (u .stored) (fill-join old at a k);
+      }
+
+  -- a turn of a loop that begins with i at a
+  pub upto-from :
+      (a : ℕ) {old : List A} {at n i j : ℕ} {v : A} {new : List A}
+      → a ≤ i → Upto (λ k. f (a + k)) old at n (i - a) new → i - a < n → j ≡ at + (i - a) → v ≡ f i
+      → Upto (λ k. f (a + k)) old at n (i + 1 - a) (set new j v)
+  upto-from a {i = i} h u l p e =
+      let s : i + 1 - a ≡ i - a + 1 = omega arith in
+      let t : a + (i - a) ≡ i = omega arith in
+      rw s (upto-step u l p (rw t e))
 
 -- ---- lists put together
 

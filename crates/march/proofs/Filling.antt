@@ -2,10 +2,11 @@
 use mathlib.Core.Path.{_≡_, refl, subst}
 use mathlib.Core.List.{List}
 use Prim.Native.Nat.{ℕ, zero, suc, _+_, _<_, _≤_}
-use native.Mathlib.Nat.{add-assoc, add-suc, add-zero, zero-add}
+use native.Mathlib.Nat.{zero-add}
 use native.Mathlib.Omega.{arith}
 use lib.ListN.{set}
 use Rattle.loops.specs.Loops.{fill}
+use Rattle.loops.proofs.Fill.{fill-join}
 
 module _ {A : Type 0} where
   pub fill-cong : (f g : ℕ → A) (l : List A) (at n : ℕ) → ((i : ℕ) → i < n → f i ≡ g i) → fill f l at n ≡ fill g l at n
@@ -13,12 +14,7 @@ module _ {A : Type 0} where
   fill-cong f g l at zero h = refl
   fill-cong f g l at (suc n) h = rw (fill-cong f g l at n (λ i b. h i (omega arith)), h n (omega arith))
 
-  -- from a on, after a
-  fill-join : (f : ℕ → A) (l : List A) (at a n : ℕ) → fill (λ i. f (a + i)) (fill f l at a) (at + a) n ≡ fill f l at (a + n)
-  unfolding fill
-  fill-join f l at a zero = rw (add-zero a)
-  fill-join f l at a (suc n) = rw (fill-join f l at a n, add-suc a n, add-assoc at a n)
-
+  -- two fills end to end, from the first entry on
   pub fill-on : (f : ℕ → A) (l : List A) (a n : ℕ) → fill (λ i. f (a + i)) (fill f l 0 a) a n ≡ fill f l 0 (a + n)
   fill-on f l a n = subst (λ (k : ℕ). fill (λ i. f (a + i)) (fill f l 0 a) k n ≡ fill f l 0 (a + n)) (zero-add a) (fill-join f l 0 a n)
 

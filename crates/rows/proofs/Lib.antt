@@ -1,4 +1,5 @@
 pub mod Entries
+pub mod Sweeping
 pub mod Parts
 pub mod Differences
 pub mod Sound

@@ -10,14 +10,23 @@ use Rattle.loops.specs.Loops.{allBelow}
 use Rattle.wave.specs.declared.HeadFlow.{HeadFlow}
 use Rattle.wave.specs.Wave.{fromAbove, fromBelow, inner}
 use Rattle.job.specs.Format.{rIn}
+use Rattle.rows.specs.declared.inner.TwoCp.{TwoCp}
 use Rattle.rows.specs.Rows.{entry}
+
+-- CP of section i + 1: along reach i from the section above.
+abbrev pub cpAt : List ℕ → Float → List Float → List Float → ℕ → Float
+cpAt friction S heads flows i = fromAbove S (rIn friction i) (entry heads i) (entry flows i)
+
+-- CP of sections i + 1 and i + 2
+abbrev pub twoCpAt : List ℕ → Float → List Float → List Float → ℕ → TwoCp
+twoCpAt friction S heads flows i = record { first = cpAt friction S heads flows i; second = cpAt friction S heads flows (suc i) }
 
 -- Section i + 1 of a pipe, which has reach i above it and reach i + 1 below it. "Q and H are the neighbour's old values, R belongs to the reach
 -- between." `friction` is the pipe's own part of table 3.
 unfoldable pub innerAt : List ℕ → Float → List Float → List Float → ℕ → HeadFlow
 innerAt friction S heads flows i =
     inner S
-    (fromAbove S (rIn friction i) (entry heads i) (entry flows i))
+    (cpAt friction S heads flows i)
     (fromBelow S (rIn friction (suc i)) (entry heads (suc (suc i))) (entry flows (suc (suc i))))
 
 unfoldable pub innerHead : List ℕ → Float → List Float → List Float → ℕ → Float

@@ -7,18 +7,17 @@ ghost use lib.ListN.{length};
 ghost use lib.Ieee.Scale.{finite};
 ghost use Rattle.fields.specs.Real.{zero64};
 ghost use Rattle.loops.specs.Loops.{fill, allBelow};
-ghost use Rattle.job.specs.Format.{rIn};
 ghost use Rattle.job.specs.Questions.{initialFits};
 ghost use Rattle.recurrence.specs.Scan.{faultOf, acceptableAt};
 ghost use Rattle.rows.specs.Rows as row;
 ghost use Rattle.rows.specs.Faults as scan;
-ghost use Rattle.rows.specs.Sweep as pipe;
-use wave::HeadFlow;
 
 pub mod envelopes;
 pub mod found;
+pub mod inner;
 
 pub use found::Scan;
+pub use inner::sweep;
 
 // ---- whole rows
 
@@ -172,47 +171,4 @@ pub fn acceptable(
         s += 1;
     }
     true
-}
-
-// ---- the inner sections of a pipe
-
-// R of reach i of a pipe, from the bytes of table 3.
-fn friction_at(friction: &[u8], i: usize) -> f64
-    requires { ⌜ (i * 8 + 8 ≤ length (now friction)) × (finite (rIn (now friction) i) ≡ true) ⌝ }
-    ensures { λ r. ⌜ r ≡ rIn (now (friction .entry)) i ⌝ }
-{
-    fields::f64_at(friction, i * 8)
-}
-
-// Section i + 1 of a pipe, from its neighbours' old values.
-fn inner_at(friction: &[u8], s: f64, heads: &[f64], flows: &[f64], i: usize) -> HeadFlow
-    requires { ⌜ (i + 2 < length (now heads)) × (i + 2 < length (now flows)) ⌝ }
-    requires { ⌜ (i * 8 + 16 ≤ length (now friction)) × (finite (rIn (now friction) i) ≡ true) × (finite (rIn (now friction) (i + 1)) ≡ true) ⌝ }
-    ensures { λ r. ⌜ r ≡ pipe.innerAt (now (friction .entry)) s (now (heads .entry)) (now (flows .entry)) i ⌝ }
-{
-    let cp = wave::from_above(s, friction_at(friction, i), heads[i], flows[i]);
-    let cm = wave::from_below(s, friction_at(friction, i + 1), heads[i + 2], flows[i + 2]);
-    wave::inner(s, cp, cm)
-}
-
-// The inner sections of one pipe: all rows are cut to the pipe, and friction is its own part of table 3.
-pub fn sweep(
-    friction: &[u8],
-    s: f64,
-    heads: &[f64],
-    flows: &[f64],
-    new_heads: &mut [f64],
-    new_flows: &mut [f64],
-)
-    requires { ⌜ pipe.CutToPipe (now friction) (now heads) (now flows) (now «new_heads») (now «new_flows») ⌝ }
-    ensures { λ _. ⌜ (now («new_heads» .exit) ≡ fill (pipe.innerHead (now (friction .entry)) s (now (heads .entry)) (now (flows .entry))) (now («new_heads» .entry)) 1 (length (now (heads .entry)) - 2))
-        × (now («new_flows» .exit) ≡ fill (pipe.innerFlow (now (friction .entry)) s (now (heads .entry)) (now (flows .entry))) (now («new_flows» .entry)) 1 (length (now (heads .entry)) - 2)) ⌝ }
-{
-    let mut i = 0;
-    while i + 2 < heads.len() {
-        let x = inner_at(friction, s, heads, flows, i);
-        new_heads[i + 1] = x.head;
-        new_flows[i + 1] = x.flow;
-        i += 1;
-    }
 }

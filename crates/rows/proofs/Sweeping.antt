@@ -1,0 +1,38 @@
+-- What a turn of a sweep works out from the entries that it reads: the CP that is carried on is the section's own, and a section worked out from
+-- its CP and the entries below it is the pipe's inner section. Assumes nothing.
+use mathlib.Core.Path.{_≡_}
+use mathlib.Core.List.{List}
+use Prim.Native.Nat.{ℕ, suc, _<_}
+use native.Mathlib.Omega.{arith}
+use lib.ListN.{length, getD}
+use lib.Ieee.{Float, nan}
+use Rattle.wave.specs.declared.HeadFlow.{HeadFlow}
+use Rattle.wave.specs.Wave.{fromAbove, fromBelow, inner}
+use Rattle.job.specs.Format.{rIn}
+use Rattle.rows.specs.Sweep.{cpAt, innerAt, CutToPipe}
+use Rattle.rows.proofs.Entries.{read}
+
+module _ (friction : List ℕ) (S : Float) (heads flows : List Float) (i : ℕ) where
+  pub carried :
+      {cp : Float} → i < length heads → i < length flows → cp ≡ fromAbove S (rIn friction i) (getD heads i nan) (getD flows i nan)
+      → cp ≡ cpAt friction S heads flows i
+  carried a b e = rw (← read heads i a, ← read flows i b) e
+
+  pub worked-out :
+      {cp : Float} {x : HeadFlow} (j k : ℕ) → j ≡ suc i → k ≡ suc (suc i) → k < length heads → k < length flows → cp ≡ cpAt friction S heads flows i
+      → x ≡ inner S cp (fromBelow S (rIn friction j) (getD heads k nan) (getD flows k nan)) → x ≡ innerAt friction S heads flows i
+  unfolding innerAt
+  worked-out j k p q a b e h = rw (← e, ← q, ← p, ← read heads k a, ← read flows k b) h
+
+-- new rows after stores are cut to the pipe as before
+pub still-cut :
+    {friction : List ℕ} {heads flows newHeads newFlows nextHeads nextFlows : List Float} → CutToPipe friction heads flows newHeads newFlows
+    → length nextHeads ≡ length newHeads → length nextFlows ≡ length newFlows → CutToPipe friction heads flows nextHeads nextFlows
+still-cut c e d =
+    record {
+      flows-long = c .flows-long;
+      new-heads-long = omega arith;
+      new-flows-long = omega arith;
+      friction-long = c .friction-long;
+      friction-finite = c .friction-finite;
+    }

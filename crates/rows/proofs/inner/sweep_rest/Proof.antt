@@ -1,0 +1,92 @@
+-- `rows::inner::sweep_rest` meets its contract: each turn stores the head and the flow of one section. Assumes nothing.
+use mathlib.Core.Path.{ap}
+use Prim.Native.Nat.{_+_, _-_, _≤_}
+use native.Mathlib.Nat.{sub-self}
+use native.Mathlib.Omega.{arith}
+use lib.ListN.{length}
+use denote.Ref.{now}
+use Rattle.loops.proofs.Fill.{Upto, upto-none, upto-done, upto-from}
+use Rattle.loops.proofs.All.{all-at}
+use Rattle.wave.specs.declared.HeadFlow.{HeadFlow}
+use Rattle.rows.specs.Sweep.{innerHead, innerFlow}
+use Rattle.rows.proofs.Sweeping.{carried, worked-out}
+use Rattle.rows.proofs.inner.sweep_rest.Statement.{statement}
+use Rattle.rows.proofs.inner.sweep_rest.Tie as tie
+
+abbrev Inv-loop : tie.InvT-loop
+Inv-loop friction s heads flows new-heads₀ new-flows₀ from i₀ new-heads new-flows i =
+    (from ≤ i)
+    × Upto (λ k. innerHead friction s heads flows (from + k)) new-heads₀ (1 + from) (length heads - 2 - from) (i - from) new-heads
+    × Upto (λ k. innerFlow friction s heads flows (from + k)) new-flows₀ (1 + from) (length heads - 2 - from) (i - from) new-flows
+
+abbrev μ-loop : tie.MeasureT-loop
+μ-loop friction s heads flows new-heads₀ new-flows₀ from i₀ new-heads new-flows i = length heads - i
+
+loop-holds : tie.Need-loop-holds Inv-loop μ-loop
+loop-holds c = (omega arith, rw sub-self upto-none, rw sub-self upto-none)
+
+cp-along-requires : tie.Need-cp-along-requires Inv-loop μ-loop
+cp-along-requires c κs =
+    let start = c .before .before .before .before .before .before .before .before .before in
+    (omega arith, all-at _ _ _ (start .pre .0 .friction-finite) (omega arith))
+
+inner-along-requires : tie.Need-inner-along-requires Inv-loop μ-loop
+inner-along-requires c κs =
+    let start = c .before .before .before .before .before .before .before .before .before .before .before .before in
+    (omega arith, all-at _ _ _ (start .pre .0 .friction-finite) (omega arith))
+
+loop-again : tie.Need-loop-again Inv-loop μ-loop
+unfolding innerHead innerFlow
+loop-again c =
+    let turn = c .before .before .before .before .before .before .before in
+    let a = c .before .before .before .before .before .before .before .before .before .before .before .before .before .args in
+    let i = turn .loop .i in
+    let cp = carried (now (a .friction)) (a .s) (now (a .heads)) (now (a .flows)) i (omega arith) (omega arith) (c .before .before .before .cp-along .ensures) in
+    let x = worked-out (now (a .friction)) (a .s) (now (a .heads)) (now (a .flows)) i (i + 1) (i + 2) (omega arith) (omega arith) (omega arith) (omega arith) cp (c .inner-along .ensures) in (
+      omega arith,
+      upto-from (innerHead (now (a .friction)) (a .s) (now (a .heads)) (now (a .flows))) (a .from) (omega arith) (turn .loop .inv .1) (omega arith) (omega arith) (ap (λ (x : HeadFlow). x .head) x),
+      upto-from (innerFlow (now (a .friction)) (a .s) (now (a .heads)) (now (a .flows))) (a .from) (omega arith) (turn .loop .inv .2) (omega arith) (omega arith) (ap (λ (x : HeadFlow). x .flow) x),
+    )
+
+same-length : tie.Need-same-length Inv-loop μ-loop
+same-length c = c .before .loop .inv .1 .long
+
+same-length-2 : tie.Need-same-length-2 Inv-loop μ-loop
+same-length-2 c = c .before .loop .inv .2 .long
+
+returns : tie.Need-returns Inv-loop μ-loop
+returns c = (upto-done (c .before .loop .inv .1) (omega arith), upto-done (c .before .loop .inv .2) (omega arith))
+
+pub sweep-rest-spec : {M : Type 1} → statement M
+sweep-rest-spec =
+    tie.close
+    (tie.spec
+    Inv-loop
+    μ-loop
+    loop-holds
+    (λ c. omega arith)
+    (λ c. omega arith)
+    (λ c. omega arith)
+    (λ c. omega arith)
+    (λ c. omega arith)
+    cp-along-requires
+    (λ c. omega arith)
+    (λ c. omega arith)
+    (λ c. omega arith)
+    (λ c. omega arith)
+    (λ c. omega arith)
+    (λ c. omega arith)
+    (λ c. omega arith)
+    inner-along-requires
+    (λ c. omega arith)
+    (λ c. omega arith)
+    (λ c. omega arith)
+    (λ c. omega arith)
+    (λ c. omega arith)
+    (λ c. omega arith)
+    (λ c. omega arith)
+    (λ c. omega arith)
+    loop-again
+    same-length
+    same-length-2
+    returns)
