@@ -22,6 +22,10 @@ pub record Rows : Type 0 where
   pub spareHeads : List Float
   pub spareFlows : List Float
 
+abbrev pub six : List Float → List Float → List Float → List Float → List Float → List Float → Rows
+six heads flows highest lowest spareHeads spareFlows =
+    record { heads = heads; flows = flows; highest = highest; lowest = lowest; spareHeads = spareHeads; spareFlows = spareFlows }
+
 -- question 20: "does each lent slice hold the section count?"
 unfoldable pub enoughLent : ℕ → Rows → Bool
 enoughLent n r =

@@ -11,7 +11,7 @@ use Rattle.job.specs.Job.{Job, Pipe, Kind, junction, reservoir, valve, Schedule
 use Rattle.job.proofs.Figures.{jobQ, jobOfAllKinds}
 use Rattle.recurrence.specs.State.{Point, State, startState}
 use Rattle.recurrence.specs.Run.{Answer, answerOf, started, steps, leftBy}
-use Rattle.recurrence.specs.Calls.{Rows, Called, startCall, runOnCall}
+use Rattle.recurrence.specs.Calls.{Rows, six, Called, startCall, runOnCall}
 
 -- ---- jobs of bytes, from job Q's
 
@@ -35,12 +35,9 @@ jobQTooOpen = patched jobQ ((213, 64) ∷ [])
 
 -- ---- calls
 
-abbrev pub sixRows : List Float → List Float → List Float → List Float → List Float → List Float → Rows
-sixRows h q t b u w = record { heads = h; flows = q; highest = t; lowest = b; spareHeads = u; spareFlows = w }
-
 -- six rows of four sevens: job Q and its like have three sections
 unfoldable pub lentSevens : Rows
-lentSevens = let row = replicate 4 (num 7) in sixRows row row row row row row
+lentSevens = let row = replicate 4 (num 7) in six row row row row row row
 
 -- a start in such rows, and a run-on of N steps
 unfoldable pub ranOn : List ℕ → ℕ → Called

@@ -11,8 +11,8 @@ use Rattle.job.specs.Job.{Job, Pipe, Kind, junction, reservoir, valve, Schedule
 use Rattle.job.proofs.Figures.{jobQ, jobOfAllKinds}
 use Rattle.recurrence.specs.State.{Point, startState}
 use Rattle.recurrence.specs.Run.{Answer, answerOf, started, steps, leftBy}
-use Rattle.recurrence.specs.Calls.{Rows, Called, startCall, runOnCall}
-use Rattle.recurrence.specs.Figures.{jobQOnFloor, jobQClosing, jobQTooOpen, sixRows, lentSevens, ranOn, refusal, done}
+use Rattle.recurrence.specs.Calls.{Rows, six, Called, startCall, runOnCall}
+use Rattle.recurrence.specs.Figures.{jobQOnFloor, jobQClosing, jobQTooOpen, lentSevens, ranOn, refusal, done}
 
 -- ---- what the calls leave in the rows
 
@@ -40,13 +40,13 @@ abbrev pub _leaves_ : Called → Called → Type 0
 c leaves d = shown c ≡ shown d
 
 pub record RowFigures : Type 0 where
-  pub start : startCall jobQ lentSevens leaves record { rows = sixRows (row (num 10) (num 10) (num 10)) (row (num 4) (num 4) (num 4)) (row (num 10) (num 10) (num 10)) (row (num 10) (num 10) (num 10)) cleared cleared; answer = done 0 }
+  pub start : startCall jobQ lentSevens leaves record { rows = six (row (num 10) (num 10) (num 10)) (row (num 4) (num 4) (num 4)) (row (num 10) (num 10) (num 10)) (row (num 10) (num 10) (num 10)) cleared cleared; answer = done 0 }
   -- document 01's listing of job Q
-  pub one-step : ranOn jobQ 1 leaves record { rows = sixRows (row (num 10) (num 10) (num 14)) (row (num 4) (num 4) (num 0)) (row (num 10) (num 10) (num 14)) (row (num 10) (num 10) (num 10)) cleared cleared; answer = done 1 }
+  pub one-step : ranOn jobQ 1 leaves record { rows = six (row (num 10) (num 10) (num 14)) (row (num 4) (num 4) (num 0)) (row (num 10) (num 10) (num 14)) (row (num 10) (num 10) (num 10)) cleared cleared; answer = done 1 }
   -- the minimum is lowered
-  pub five-steps : ranOn jobQ 5 leaves record { rows = sixRows (row (num 10) (num 10) (num 6)) (row (neg (num 4)) (neg (num 4)) (num 0)) (row (num 10) (num 14) (num 14)) (row (num 10) (num 10) (num 6)) cleared cleared; answer = done 5 }
+  pub five-steps : ranOn jobQ 5 leaves record { rows = six (row (num 10) (num 10) (num 6)) (row (neg (num 4)) (neg (num 4)) (num 0)) (row (num 10) (num 14) (num 14)) (row (num 10) (num 10) (num 6)) cleared cleared; answer = done 5 }
   -- a stop at the fifth step leaves the fourth's state and envelopes
-  pub stop : ranOn jobQOnFloor 9 leaves record { rows = sixRows (row (num 10) (num 10) (num 14)) (row (neg (num 4)) (neg (num 4)) (num 0)) (row (num 10) (num 14) (num 14)) (row (num 10) (num 10) (num 10)) cleared cleared; answer = record { number = 41; steps = 4; section = 2 } }
+  pub stop : ranOn jobQOnFloor 9 leaves record { rows = six (row (num 10) (num 10) (num 14)) (row (neg (num 4)) (neg (num 4)) (num 0)) (row (num 10) (num 14) (num 14)) (row (num 10) (num 10) (num 10)) cleared cleared; answer = record { number = 41; steps = 4; section = 2 } }
   -- no step: the spare rows are cleared
   pub no-step : runOnCall jobQ 3 0 lentSevens leaves record { rows = record { heads = lentSevens .heads; flows = lentSevens .flows; highest = lentSevens .highest; lowest = lentSevens .lowest; spareHeads = cleared; spareFlows = cleared }; answer = done 3 }
 
@@ -64,18 +64,18 @@ short = replicate 2 (num 7)
 
 -- rows of four sevens with x for one of them
 abbrev pub withHead : Float → Rows
-withHead x = sixRows (set long 2 x) long long long long long
+withHead x = six (set long 2 x) long long long long long
 
 pub record RefusalFigures : Type 0 where
-  pub short-heads : runOnCall jobQ 0 1 (sixRows short long long long long long) leaves refusedBy 20 (sixRows short long long long long long)
-  pub short-flows : runOnCall jobQ 0 1 (sixRows long short long long long long) leaves refusedBy 20 (sixRows long short long long long long)
-  pub short-highest : runOnCall jobQ 0 1 (sixRows long long short long long long) leaves refusedBy 20 (sixRows long long short long long long)
-  pub short-lowest : runOnCall jobQ 0 1 (sixRows long long long short long long) leaves refusedBy 20 (sixRows long long long short long long)
-  pub short-spare-heads : runOnCall jobQ 0 1 (sixRows long long long long short long) leaves refusedBy 20 (sixRows long long long long short long)
-  pub short-spare-flows : runOnCall jobQ 0 1 (sixRows long long long long long short) leaves refusedBy 20 (sixRows long long long long long short)
-  pub short-start : startCall jobQ (sixRows long long long long long short) leaves refusedBy 20 (sixRows long long long long long short)
+  pub short-heads : runOnCall jobQ 0 1 (six short long long long long long) leaves refusedBy 20 (six short long long long long long)
+  pub short-flows : runOnCall jobQ 0 1 (six long short long long long long) leaves refusedBy 20 (six long short long long long long)
+  pub short-highest : runOnCall jobQ 0 1 (six long long short long long long) leaves refusedBy 20 (six long long short long long long)
+  pub short-lowest : runOnCall jobQ 0 1 (six long long long short long long) leaves refusedBy 20 (six long long long short long long)
+  pub short-spare-heads : runOnCall jobQ 0 1 (six long long long long short long) leaves refusedBy 20 (six long long long long short long)
+  pub short-spare-flows : runOnCall jobQ 0 1 (six long long long long long short) leaves refusedBy 20 (six long long long long long short)
+  pub short-start : startCall jobQ (six long long long long long short) leaves refusedBy 20 (six long long long long long short)
   -- three entries are enough for three sections
-  pub just-enough : runOnCall jobQ 0 0 (let r = replicate 3 (num 7) in sixRows r r r r r r) .answer ≡ done 0
+  pub just-enough : runOnCall jobQ 0 0 (let r = replicate 3 (num 7) in six r r r r r r) .answer ≡ done 0
   -- question 21
   pub m-too-great : runOnCall jobQ 1_000_001 0 lentSevens leaves refusedBy 21 lentSevens
   pub N-too-great : runOnCall jobQ 0 1_000_001 lentSevens leaves refusedBy 21 lentSevens
@@ -85,16 +85,16 @@ pub record RefusalFigures : Type 0 where
   pub head-not-finite : runOnCall jobQ 0 0 (withHead nan) leaves refusedBy 22 (withHead nan)
   pub head-below-floor : runOnCall jobQ 0 0 (withHead (neg (num 1))) leaves refusedBy 22 (withHead (neg (num 1)))
   pub head-on-floor : runOnCall jobQ 0 0 (withHead (neg (num 0))) .answer ≡ done 0
-  pub flow-not-finite : runOnCall jobQ 0 0 (sixRows long (set long 2 infinity64) long long long long) .answer ≡ refusal 22
-  pub highest-not-finite : runOnCall jobQ 0 0 (sixRows long long (set long 2 infinity64) long long long) .answer ≡ refusal 22
-  pub lowest-not-finite : runOnCall jobQ 0 0 (sixRows long long long (set long 2 (neg infinity64)) long long) .answer ≡ refusal 22
-  pub spare-not-asked : runOnCall jobQ 0 0 (sixRows long long long long (set long 2 nan) long) .answer ≡ done 0
-  pub past-the-count : runOnCall jobQ 0 0 (let r = set long 3 nan in sixRows r r r r r r) .answer ≡ done 0
+  pub flow-not-finite : runOnCall jobQ 0 0 (six long (set long 2 infinity64) long long long long) .answer ≡ refusal 22
+  pub highest-not-finite : runOnCall jobQ 0 0 (six long long (set long 2 infinity64) long long long) .answer ≡ refusal 22
+  pub lowest-not-finite : runOnCall jobQ 0 0 (six long long long (set long 2 (neg infinity64)) long long) .answer ≡ refusal 22
+  pub spare-not-asked : runOnCall jobQ 0 0 (six long long long long (set long 2 nan) long) .answer ≡ done 0
+  pub past-the-count : runOnCall jobQ 0 0 (let r = set long 3 nan in six r r r r r r) .answer ≡ done 0
   -- "The first no decides": 1 to 15, 20, 21, 22
-  pub fifteen-before-20 : runOnCall jobQTooOpen 0 1 (sixRows short long long long long long) leaves refusedBy 15 (sixRows short long long long long long)
-  pub fifteen-before-20-start : startCall jobQTooOpen (sixRows short long long long long long) leaves refusedBy 15 (sixRows short long long long long long)
-  pub one-before-20 : startCall (take 45 jobQ) (sixRows short long long long long long) .answer ≡ refusal 1
-  pub twenty-before-21 : runOnCall jobQ 1_000_001 0 (sixRows short long long long long long) .answer ≡ refusal 20
+  pub fifteen-before-20 : runOnCall jobQTooOpen 0 1 (six short long long long long long) leaves refusedBy 15 (six short long long long long long)
+  pub fifteen-before-20-start : startCall jobQTooOpen (six short long long long long long) leaves refusedBy 15 (six short long long long long long)
+  pub one-before-20 : startCall (take 45 jobQ) (six short long long long long long) .answer ≡ refusal 1
+  pub twenty-before-21 : runOnCall jobQ 1_000_001 0 (six short long long long long long) .answer ≡ refusal 20
   pub twenty-one-before-22 : runOnCall jobQ 1_000_001 0 (withHead nan) .answer ≡ refusal 21
 
 -- ---- the steps
@@ -203,7 +203,7 @@ pub record StepFigures : Type 0 where
   -- "At one section 40 precedes 41", and sections go upward
   pub both-faults : answerAfter bothFaults 1 ≡ record { number = 40; steps = 0; section = 1 }
   pub faults-upward : answerAfter faultsUpward 1 ≡ record { number = 41; steps = 0; section = 1 }
-  pub all-kinds : runOnCall jobOfAllKinds 0 7 (startCall jobOfAllKinds (let r = replicate 6 zero64 in sixRows r r r r r r) .rows) .answer ≡ record { number = 41; steps = 0; section = 3 }
+  pub all-kinds : runOnCall jobOfAllKinds 0 7 (startCall jobOfAllKinds (let r = replicate 6 zero64 in six r r r r r r) .rows) .answer ≡ record { number = 41; steps = 0; section = 3 }
   -- -0 is neither greater nor less than +0
   pub zero-head : after minusZero 1 head ≡ 0x8000_0000_0000_0000 ∷ 0x8000_0000_0000_0000 ∷ []
   pub zero-highest : after minusZero 1 highest ≡ 0 ∷ 0 ∷ []

@@ -17,15 +17,15 @@ use Rattle.job.proofs.Listed.{getD-listed, length-listed}
 use Rattle.recurrence.specs.State.{Point, State, pointAt, noPoint, startPoint, startState}
 use Rattle.recurrence.specs.Scan.{acceptable}
 use Rattle.recurrence.specs.Run.{Result, refused, ran, completed, answerOf, ask, started, start, steps, withinLimit, runOn}
-use Rattle.recurrence.specs.Calls.{Rows, enoughLent, pointIn, stateIn, rowOf, rowsOf, rowsAfter, Called, readFirst, called, startResult, startCall, runOnResult, runOnCall}
+use Rattle.recurrence.specs.Calls.{Rows, enoughLent, pointIn, stateIn, rowOf, rowsOf, rowsAfter, Called, readFirst, called, startResult, startCall, runOnResult, runOnCall, six}
 use Rattle.recurrence.proofs.Tests.{both}
 use Rattle.recurrence.proofs.RowLaws.{state-at, state-long, row-same, Lengths}
 use Rattle.rows.proofs.InState.{filled-row}
 use Rattle.surge.specs.declared.answer.Answer.{Answer}
 use Rattle.surge.specs.declared.answer.Answer.the-variants.{Refused, Done}
-use Rattle.surge.specs.declared.run.Ended.{Ended}
-use Rattle.surge.specs.Answers.{paperAnswer, six, left}
-use Rattle.surge.specs.Inner.{Ready, SameRest, resultOf}
+use Rattle.steps.specs.declared.Ended.{Ended}
+use Rattle.surge.specs.Answers.{paperAnswer, left}
+use Rattle.steps.specs.Steps.{Ready, SameRest, resultOf}
 
 -- ---- the questions
 

@@ -1,5 +1,1 @@
-pub mod Alike
-pub mod Taken
-pub mod Runs
-pub mod Rewritten
 pub mod Left

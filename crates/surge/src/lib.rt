@@ -6,19 +6,17 @@ ghost use lib.Dec.{leb};
 ghost use Rattle.job.specs.Format.{jobOf};
 ghost use Rattle.recurrence.specs.State.{State};
 ghost use Rattle.recurrence.specs.Run.{answerOf, started, ran, completed, steps, withinLimit};
-ghost use Rattle.recurrence.specs.Calls.{stateIn, called, startCall, runOnCall};
-ghost use Rattle.surge.specs.Answers.{paperAnswer, six, left};
-ghost use Rattle.surge.specs.Inner.{Ready, resultOf};
+ghost use Rattle.recurrence.specs.Calls.{stateIn, called, startCall, runOnCall, six};
+ghost use Rattle.surge.specs.Answers.{paperAnswer, left};
+ghost use Rattle.steps.specs.Steps.{Ready, resultOf};
 
 pub mod answer;
-pub mod run;
 pub mod state;
-pub mod step;
 
 pub use answer::Answer;
 use job::Read;
 use rows::Scan;
-use run::Ended;
+use steps::Ended;
 
 // The most steps that a run may come to.
 const LIMIT: u64 = 1000000;
@@ -130,7 +128,7 @@ fn carry_on(
     ensures { λ r. ⌜ left (six (now (heads .exit)) (now (flows .exit)) (now (highest .exit)) (now (lowest .exit)) (now («spare_heads» .exit)) (now («spare_flows» .exit))) r ≡ called (now (job .entry)) (six (now (heads .entry)) (now (flows .entry)) (now (highest .entry)) (now (lowest .entry)) (now («spare_heads» .entry)) (now («spare_flows» .entry))) (steps (jobOf (now (job .entry))) count done (stateIn n (six (now (heads .entry)) (now (flows .entry)) (now (highest .entry)) (now (lowest .entry)) (now («spare_heads» .entry)) (now («spare_flows» .entry))))) ⌝ }
 {
     let t = march::ends::constant_sums(job);
-    let ended = run::run(
+    let ended = steps::run(
         job,
         n,
         done,

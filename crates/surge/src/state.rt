@@ -10,8 +10,7 @@ ghost use Rattle.job.specs.Job.{sections, initialAt};
 ghost use Rattle.job.specs.Format.{jobOf, initialOf};
 ghost use Rattle.job.specs.Questions.{Accepted, initialFits};
 ghost use Rattle.recurrence.specs.Scan.{acceptable};
-ghost use Rattle.recurrence.specs.Calls.{stateIn};
-ghost use Rattle.surge.specs.Answers.{six};
+ghost use Rattle.recurrence.specs.Calls.{stateIn, six};
 
 // The initial heads and flows of table 4 into the rows of heads and flows, and the heads into both envelopes.
 fn write_initial(

@@ -1,9 +1,8 @@
 -- `surge::begin` meets its contract: the initial state in four rows, +0 in two. Assumes nothing.
 use native.Mathlib.Omega.{arith}
 use borrow.Author.Needs.{needs}
-use Rattle.recurrence.specs.Calls.{Rows}
+use Rattle.recurrence.specs.Calls.{Rows, six}
 use Rattle.recurrence.proofs.RowLaws.{Lengths, enough-lengths}
-use Rattle.surge.specs.Answers.{six}
 use Rattle.surge.proofs.Left.{begun}
 use Rattle.surge.proofs.begin.Statement.{statement}
 use Rattle.surge.proofs.begin.Tie as tie

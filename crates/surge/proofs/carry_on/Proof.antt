@@ -2,10 +2,9 @@
 use mathlib.Core.Path.{_≡_, _∙_}
 use native.Mathlib.Omega.{arith}
 use borrow.Author.Needs.{needs}
-use Rattle.recurrence.specs.Calls.{Rows}
+use Rattle.recurrence.specs.Calls.{Rows, six}
 use Rattle.recurrence.proofs.RowLaws.{Lengths, enough-lengths}
-use Rattle.surge.specs.Answers.{six}
-use Rattle.surge.proofs.Runs.{SameSizes, enough-kept}
+use Rattle.steps.proofs.Runs.{SameSizes, enough-kept}
 use Rattle.surge.proofs.Left.{run-left}
 use Rattle.surge.proofs.carry_on.Statement.{statement}
 use Rattle.surge.proofs.carry_on.Tie as tie

@@ -9,9 +9,8 @@ use Rattle.job.specs.Answer.{paperAnswer}
 use Rattle.job.proofs.FirstNo.{is-yes, is-no}
 use Rattle.job.proofs.AnswerLaws.{refused-is, accepted-is}
 use Rattle.recurrence.specs.Scan.{acceptable}
-use Rattle.recurrence.specs.Calls.{Rows, enoughLent, pointIn, stateIn}
+use Rattle.recurrence.specs.Calls.{Rows, enoughLent, pointIn, stateIn, six}
 use Rattle.recurrence.proofs.RowLaws.{enough-lengths}
-use Rattle.surge.specs.Answers.{six}
 use Rattle.surge.proofs.Left.{run-not-read, run-short, run-beyond, run-unacceptable, run-ran, limit-kept}
 use Rattle.surge.proofs.run_on.Statement.{statement}
 use Rattle.surge.proofs.run_on.Tie as tie

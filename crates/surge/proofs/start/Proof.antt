@@ -7,8 +7,7 @@ use Rattle.job.specs.Questions.{Accepted}
 use Rattle.job.specs.Answer.{paperAnswer}
 use Rattle.job.proofs.FirstNo.{is-yes, is-no}
 use Rattle.job.proofs.AnswerLaws.{refused-is, accepted-is}
-use Rattle.recurrence.specs.Calls.{Rows, enoughLent}
-use Rattle.surge.specs.Answers.{six}
+use Rattle.recurrence.specs.Calls.{Rows, enoughLent, six}
 use Rattle.surge.proofs.Left.{start-not-read, start-short, start-ran}
 use Rattle.surge.proofs.start.Statement.{statement}
 use Rattle.surge.proofs.start.Tie as tie

@@ -2,14 +2,14 @@
 use mathlib.Core.Path.{_≡_, sym, ap, _∙_}
 use mathlib.Core.List.{[]}
 use native.Mathlib.Omega.{arith}
+use Rattle.recurrence.specs.Calls.{six}
 use borrow.Author.Needs.{needs}
 use Rattle.job.specs.Job.{sections}
 use Rattle.job.specs.Format.{jobOf}
 use Rattle.job.proofs.Accepted.{initial-length, initial-fits}
 use Rattle.rows.proofs.InState.{acceptable-is}
 use Rattle.march.proofs.Accept.{pairs-accepted}
-use Rattle.surge.specs.Answers.{six}
-use Rattle.surge.proofs.Taken.{floor-read}
+use Rattle.steps.proofs.Taken.{floor-read}
 use Rattle.surge.proofs.state.acceptable.Statement.{statement}
 use Rattle.surge.proofs.state.acceptable.Tie as tie
 

@@ -1,8 +1,8 @@
--- `surge::step::stops` meets its contract: by the cases of what was found. Assumes nothing.
+-- `steps::step::stops` meets its contract: by the cases of what was found. Assumes nothing.
 use borrow.Author.Needs.{needs}
-use Rattle.surge.specs.Inner.{stops}
-use Rattle.surge.proofs.step.stops.Statement.{statement}
-use Rattle.surge.proofs.step.stops.Tie as tie
+use Rattle.steps.specs.Steps.{stops}
+use Rattle.steps.proofs.step.stops.Statement.{statement}
+use Rattle.steps.proofs.step.stops.Tie as tie
 
 returns : tie.Need-returns
 unfolding stops

@@ -27,8 +27,8 @@ use Rattle.rows.specs.Rows.{entry, raised, lowered, raisedAt, loweredAt}
 use Rattle.rows.specs.Faults.{floorIn, firstFault}
 use Rattle.rows.proofs.InState.{updated-highest, updated-lowest, scan-is}
 use Rattle.march.specs.March.{held, newSection}
-use Rattle.surge.specs.Inner.{Ready}
-use Rattle.surge.proofs.Alike.{field-listed, new-alike}
+use Rattle.steps.specs.Steps.{Ready}
+use Rattle.steps.proofs.Alike.{field-listed, new-alike}
 
 -- ---- a filled row
 

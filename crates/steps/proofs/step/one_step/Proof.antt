@@ -1,13 +1,13 @@
--- `surge::step::one_step` meets its contract: a step worked out in the spare rows, and taken over where its scan finds no fault. Assumes nothing.
+-- `steps::step::one_step` meets its contract: a step worked out in the spare rows, and taken over where its scan finds no fault. Assumes nothing.
 use mathlib.Core.Path.{_≡_, sym, _∙_}
 use native.Mathlib.Omega.{arith}
 use borrow.Author.Needs.{needs}
 use Rattle.recurrence.specs.Calls.{Rows}
 use Rattle.recurrence.proofs.RowLaws.{Lengths, enough-lengths}
-use Rattle.surge.specs.Answers.{six}
-use Rattle.surge.proofs.Rewritten.{one-stops, one-done}
-use Rattle.surge.proofs.step.one_step.Statement.{statement}
-use Rattle.surge.proofs.step.one_step.Tie as tie
+use Rattle.recurrence.specs.Calls.{six}
+use Rattle.steps.proofs.Rewritten.{one-stops, one-done}
+use Rattle.steps.proofs.step.one_step.Statement.{statement}
+use Rattle.steps.proofs.step.one_step.Tie as tie
 
 -- the rows as they are lent, and their lengths
 abbrev lent : tie.Start → Rows

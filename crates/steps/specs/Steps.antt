@@ -13,7 +13,7 @@ use Rattle.recurrence.specs.Run.{Ending, completed, stop, Result, ran, steps}
 use Rattle.recurrence.specs.Calls.{Rows, enoughLent, stateIn}
 use Rattle.rows.specs.declared.found.Scan.{Scan}
 use Rattle.rows.specs.declared.found.Scan.the-variants.{Sound, NotFinite, Parted}
-use Rattle.surge.specs.declared.run.Ended.{Ended}
+use Rattle.steps.specs.declared.Ended.{Ended}
 
 -- an accepted job of n sections, with enough lent for each
 pub record Ready (job : List ℕ) (n : ℕ) (rows : Rows) : Type 0 where

@@ -8,9 +8,9 @@ ghost use Rattle.job.specs.Format.{jobOf, initialTable};
 ghost use Rattle.rows.specs.Rows.{entry};
 ghost use Rattle.rows.specs.Faults.{foundFault, firstFault};
 ghost use Rattle.march.specs.March.{Lent, constantSums, newSection};
-ghost use Rattle.surge.specs.Answers.{six};
-ghost use Rattle.surge.specs.Inner as inner;
-use super::run::Ended;
+ghost use Rattle.recurrence.specs.Calls.{six};
+ghost use Rattle.steps.specs.Steps as inner;
+use super::Ended;
 use rows::Scan;
 
 // Whether a scan found a fault.

@@ -17,8 +17,8 @@ use Rattle.recurrence.proofs.RunLaws.{steps-on, steps-stop, andThen, steps-join
 use Rattle.rows.specs.declared.found.Scan.{Scan}
 use Rattle.rows.specs.declared.found.Scan.the-variants.{Sound, NotFinite, Parted}
 use Rattle.rows.specs.Faults.{foundFault}
-use Rattle.surge.specs.declared.run.Ended.{Ended}
-use Rattle.surge.specs.Inner.{Ready, SameRest, stops, endingOf, resultOf, Runs}
+use Rattle.steps.specs.declared.Ended.{Ended}
+use Rattle.steps.specs.Steps.{Ready, SameRest, stops, endingOf, resultOf, Runs}
 
 -- ---- rows that keep their lengths, and what stands past the section count
 

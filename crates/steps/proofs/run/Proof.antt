@@ -1,13 +1,13 @@
--- `surge::run::run` meets its contract: before each turn the rows are underway; a stop, the last single step or the end of the loop ends the run. Assumes nothing.
+-- `steps::run` meets its contract: before each turn the rows are underway; a stop, the last single step or the end of the loop ends the run. Assumes nothing.
 use mathlib.Core.Path.{_≡_, sym, _∙_}
 use Prim.Native.Nat.{ℕ, _+_, _-_, _≤_, _<_}
 use native.Mathlib.Omega.{arith}
 use borrow.Author.Needs.{needs}
 use Rattle.recurrence.specs.Calls.{Rows}
-use Rattle.surge.specs.Answers.{six}
-use Rattle.surge.proofs.Runs.{SameSizes, enough-kept, Underway, way-none, way-next, way-stop, way-last, way-done}
-use Rattle.surge.proofs.run.run.Statement.{statement}
-use Rattle.surge.proofs.run.run.Tie as tie
+use Rattle.recurrence.specs.Calls.{six}
+use Rattle.steps.proofs.Runs.{SameSizes, enough-kept, Underway, way-none, way-next, way-stop, way-last, way-done}
+use Rattle.steps.proofs.run.Statement.{statement}
+use Rattle.steps.proofs.run.Tie as tie
 
 abbrev Inv-loop : tie.InvT-loop
 Inv-loop job n done count t heads₀ flows₀ highest₀ lowest₀ spare-heads₀ spare-flows₀ i₀ heads flows highest lowest spare-heads spare-flows i =

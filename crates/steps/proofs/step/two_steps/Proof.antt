@@ -1,13 +1,13 @@
--- `surge::step::two_steps` meets its contract: a step from the rows into the spare rows, and one back, each scanned. Assumes nothing.
+-- `steps::step::two_steps` meets its contract: a step from the rows into the spare rows, and one back, each scanned. Assumes nothing.
 use mathlib.Core.Path.{_≡_, sym, _∙_}
 use native.Mathlib.Omega.{arith}
 use borrow.Author.Needs.{needs}
 use Rattle.recurrence.specs.Calls.{Rows}
 use Rattle.recurrence.proofs.RowLaws.{Lengths, enough-lengths}
-use Rattle.surge.specs.Answers.{six}
-use Rattle.surge.proofs.Rewritten.{two-stop-first, two-stop-second, two-done}
-use Rattle.surge.proofs.step.two_steps.Statement.{statement}
-use Rattle.surge.proofs.step.two_steps.Tie as tie
+use Rattle.recurrence.specs.Calls.{six}
+use Rattle.steps.proofs.Rewritten.{two-stop-first, two-stop-second, two-done}
+use Rattle.steps.proofs.step.two_steps.Statement.{statement}
+use Rattle.steps.proofs.step.two_steps.Tie as tie
 
 -- the rows as they are lent, and their lengths
 abbrev lent : tie.Start → Rows

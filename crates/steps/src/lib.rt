@@ -2,8 +2,11 @@
 ghost use mathlib.Core.Path.{_≡_};
 ghost use Prim.Native.Nat.{ℕ, _+_, _≤_};
 ghost use Rattle.march.specs.March.{constantSums};
-ghost use Rattle.surge.specs.Answers.{six};
-ghost use Rattle.surge.specs.Inner.{Ready, Runs};
+ghost use Rattle.recurrence.specs.Calls.{six};
+ghost use Rattle.steps.specs.Steps.{Ready, Runs};
+
+pub mod step;
+
 use rows::Scan;
 
 // How a run ended: the steps done in all, and what stopped it.
@@ -32,7 +35,7 @@ pub fn run(
 {
     let mut i = 0;
     while i + 1 < count {
-        let ended = super::step::two_steps(
+        let ended = step::two_steps(
             job,
             n,
             done + i,
@@ -45,13 +48,13 @@ pub fn run(
             spare_flows,
         );
         let found = ended.found;
-        if super::step::stops(found) {
+        if step::stops(found) {
             return ended;
         }
         i += 2;
     }
     if i < count {
-        return super::step::one_step(
+        return step::one_step(
             job,
             n,
             done + i,

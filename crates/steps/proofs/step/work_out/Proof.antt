@@ -1,11 +1,11 @@
--- `surge::step::work_out` meets its contract: the new heads and flows are worked out, and scanned with the floors of table 4. Assumes nothing.
+-- `steps::step::work_out` meets its contract: the new heads and flows are worked out, and scanned with the floors of table 4. Assumes nothing.
 use mathlib.Core.Path.{_≡_, _∙_}
 use native.Mathlib.Omega.{arith}
 use borrow.Author.Needs.{needs}
 use Rattle.job.proofs.Accepted.{initial-length, initial-fits}
 use Rattle.march.proofs.Accept.{pairs-accepted}
-use Rattle.surge.proofs.step.work_out.Statement.{statement}
-use Rattle.surge.proofs.step.work_out.Tie as tie
+use Rattle.steps.proofs.step.work_out.Statement.{statement}
+use Rattle.steps.proofs.step.work_out.Tie as tie
 
 abbrev begin : tie.After-work-out → tie.Start
 begin c = c .before .before .before .before .before .before .before .before

@@ -20,10 +20,10 @@ use Rattle.rows.specs.Rows.{entry, raised, lowered, raisedAt, loweredAt, raised
 use Rattle.rows.specs.declared.found.Scan.{Scan}
 use Rattle.rows.specs.Faults.{firstFault, foundFault}
 use Rattle.march.specs.March.{newSection}
-use Rattle.surge.specs.Answers.{six}
-use Rattle.surge.specs.Inner.{Ready, SameRest, stops, resultOf, Runs}
-use Rattle.surge.proofs.Taken.{filled-at, filled-rest, long, heads-are, flows-are, scanned, state-taken}
-use Rattle.surge.proofs.Runs.{step-done, step-stops, steps-more, steps-end}
+use Rattle.recurrence.specs.Calls.{six}
+use Rattle.steps.specs.Steps.{Ready, SameRest, stops, resultOf, Runs}
+use Rattle.steps.proofs.Taken.{filled-at, filled-rest, long, heads-are, flows-are, scanned, state-taken}
+use Rattle.steps.proofs.Runs.{step-done, step-stops, steps-more, steps-end}
 
 module _ (job : List ℕ) (n m : ℕ) (r : Rows) (ready : Ready job n r) (a b : List Float)
     (ea : a ≡ fill (λ s. newSection job (m + 1) (r .heads) (r .flows) s .head) (r .spareHeads) 0 (sections (jobOf job)))
