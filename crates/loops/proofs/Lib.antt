@@ -1,3 +1,4 @@
+pub mod Within
 pub mod Fill
 pub mod All
 pub mod First

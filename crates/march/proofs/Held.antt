@@ -6,11 +6,11 @@ use native.Mathlib.Omega.{arith}
 use lib.ListN.{length, getD}
 use lib.Ieee.{Float, nan}
 use Rattle.fields.specs.Real.{zero64}
+use Rattle.loops.proofs.Within.{getD-within}
 use Rattle.job.specs.Job.{sections}
 use Rattle.job.specs.Format.{listed, jobOf}
 use Rattle.recurrence.specs.State.{Point, State, pointAt, noPoint}
 use Rattle.recurrence.proofs.Listed.{getD-listed}
-use Rattle.rows.proofs.Entries.{read}
 use Rattle.march.specs.March.{held, old, Lent}
 
 module _ (n : ℕ) (heads flows : List Float) (s : ℕ) (l : s < n) where
@@ -27,7 +27,7 @@ module _ (n : ℕ) (heads flows : List Float) (s : ℕ) (l : s < n) where
 -- a section's old head and flow, as the code reads them
 module _ (job : List ℕ) (heads flows : List Float) (lent : Lent job heads flows) (s : ℕ) (l : s < sections (jobOf job)) where
   pub read-head : getD heads s nan ≡ pointAt (old job heads flows) s .head
-  read-head = read heads s (omega (arith, lent .heads-long)) ∙ sym (held-head (sections (jobOf job)) heads flows s l)
+  read-head = getD-within heads s nan zero64 (omega (arith, lent .heads-long)) ∙ sym (held-head (sections (jobOf job)) heads flows s l)
 
   pub read-flow : getD flows s nan ≡ pointAt (old job heads flows) s .flow
-  read-flow = read flows s (omega (arith, lent .flows-long)) ∙ sym (held-flow (sections (jobOf job)) heads flows s l)
+  read-flow = getD-within flows s nan zero64 (omega (arith, lent .flows-long)) ∙ sym (held-flow (sections (jobOf job)) heads flows s l)

@@ -14,9 +14,9 @@ use Rattle.job.specs.Job.{Laid, sections}
 use Rattle.job.specs.Format.{jobOf, frictionTable, rIn}
 use Rattle.recurrence.specs.State.{pointAt}
 use Rattle.recurrence.specs.Step.{inputs, between}
-use Rattle.rows.specs.Sweep.{innerAt, CutToPipe}
-use Rattle.rows.proofs.Parts.{part-length, part-at, r-part, r-part-finite}
-use Rattle.rows.proofs.InState.{inner-is}
+use Rattle.sweep.specs.Sweep.{innerAt, CutToPipe}
+use Rattle.sweep.proofs.Parts.{part-length, part-at, r-part, r-part-finite}
+use Rattle.sweep.proofs.InState.{inner-is}
 use Rattle.march.specs.March.{LaidPipe, Lent, held, old}
 use Rattle.march.proofs.Accept.{Within, within, friction-long, friction-finite, friction-read}
 use Rattle.march.proofs.Held.{held-head, held-flow}

@@ -29,7 +29,7 @@ fn write_inner(
     let b = a + l.reaches * 8;
     let first = l.first;
     let end = first + l.reaches + 1;
-    rows::sweep(
+    sweep::sweep(
         &friction[a..b],
         l.s,
         &heads[first..end],

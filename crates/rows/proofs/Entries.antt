@@ -1,19 +1,14 @@
--- What the code reads at a place of a row is the row's entry there: within a list no default is read. Assumes nothing.
-use mathlib.Core.Path.{_≡_, refl, _∙_, ap, ap₂}
-use mathlib.Core.List.{List, [], _∷_}
-use Prim.Native.Nat.{ℕ, zero, suc, _+_, _<_, _≤_}
-use native.Mathlib.Nat.{le-of-suc-le-suc, not-suc-le-zero}
+-- What the code reads at a place of a row is the row's entry there. Assumes nothing.
+use mathlib.Core.Path.{_≡_, _∙_, ap, ap₂}
+use mathlib.Core.List.{List}
+use Prim.Native.Nat.{ℕ, _+_, _<_, _≤_}
 use native.Mathlib.Omega.{arith}
 use lib.ListN.{length, getD, set}
 use lib.Ieee.{Float, nan}
 use Rattle.fields.specs.Real.{zero64}
+use Rattle.loops.proofs.Within.{getD-within}
 use Rattle.loops.proofs.Fill.{Upto, upto-step, upto-read}
 use Rattle.rows.specs.Rows.{entry}
-
-pub getD-within : {A : Type 0} (l : List A) (k : ℕ) (d e : A) → k < length l → getD l k d ≡ getD l k e
-getD-within [] k d e h = absurd (not-suc-le-zero h)
-getD-within (a ∷ l) zero d e h = refl
-getD-within (a ∷ l) (suc k) d e h = getD-within l k d e (le-of-suc-le-suc h)
 
 pub read : (row : List Float) (s : ℕ) → s < length row → getD row s nan ≡ entry row s
 read row s h = getD-within row s nan zero64 h

@@ -1,24 +1,21 @@
--- Rows that hold a state: what is filled in is the row of the new state, and the scan, question 22, the envelopes and the inner sections are the
--- recurrence's own. Assumes nothing.
+-- Rows that hold a state: what is filled in is the row of the new state, and the scan, question 22 and the envelopes are the recurrence's own.
+-- Assumes nothing.
 use mathlib.Core.Path.{_≡_, refl, sym, ap, _∙_}
 use mathlib.Core.List.{List, _++_, map}
-use Prim.Native.Nat.{ℕ, suc, _+_, _≤_, _<_}
-use native.Mathlib.Omega.{arith}
+use Prim.Native.Nat.{ℕ, _≤_, _<_}
 use lib.ListN.{length, drop}
 use lib.Ieee.{Float}
 use Rattle.loops.specs.Loops.{fill, allBelow}
 use Rattle.wave.specs.declared.HeadFlow.{HeadFlow}
-use Rattle.job.specs.Job.{Job, Laid, sections, floorAt}
-use Rattle.job.specs.Format.{rIn}
+use Rattle.job.specs.Job.{Job, sections, floorAt}
 use Rattle.recurrence.specs.State.{Point, State, pointAt}
-use Rattle.recurrence.specs.Step.{Inputs, along, cpAfter, cmBefore, between, updated}
+use Rattle.recurrence.specs.Step.{updated}
 use Rattle.recurrence.specs.Scan.{none, earlier, faultOf, scan, acceptableAt, acceptable}
 use Rattle.recurrence.specs.Calls.{Rows, pointIn, stateIn, rowOf}
 use Rattle.recurrence.proofs.RowLaws.{row-fill}
 use Rattle.recurrence.proofs.RunLaws.{all-cong, first-cong, acceptable-rows, fault-of}
 use Rattle.rows.specs.Rows.{entry, raised, lowered}
 use Rattle.rows.specs.Faults.{floorIn, headFlowPoint, faultAt, firstFault, acceptableIn}
-use Rattle.rows.specs.Sweep.{innerAt}
 
 -- a field of each point stored in a row that past the count n is as lent
 pub filled-row :
@@ -54,22 +51,3 @@ module _ (j : Job) (initial : List ℕ) (floors : (s : ℕ) → s < sections j �
   unfolding acceptableIn pointIn
   acceptable-is r =
       all-cong (sections j) _ _ (λ s l. ap (λ (floor : Float). acceptableAt floor (pointIn r s)) (floors s l)) ∙ sym (acceptable-rows j r)
-
--- ---- the inner sections of a laid pipe, from rows and friction cut to it
-
-pub inner-is :
-    (f : Inputs) (st : State) (l : Laid) (friction : List ℕ) (heads flows : List Float) (n : ℕ)
-    → ((i : ℕ) → i < n → rIn friction i ≡ f .friction (l .reach + i))
-    → ((i : ℕ) → i ≤ n → entry heads i ≡ pointAt st (l .first + i) .head)
-    → ((i : ℕ) → i ≤ n → entry flows i ≡ pointAt st (l .first + i) .flow)
-    → (i : ℕ) → suc i < n → innerAt friction (l .pipe .S) heads flows i ≡ between f st l i
-unfolding innerAt between cpAfter cmBefore along
-inner-is f st l friction heads flows n r h q i b =
-    rw (
-      r i (omega arith),
-      h i (omega arith),
-      q i (omega arith),
-      r (suc i) (omega arith),
-      h (suc (suc i)) (omega arith),
-      q (suc (suc i)) (omega arith),
-    )

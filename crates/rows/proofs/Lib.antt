@@ -1,6 +1,4 @@
 pub mod Entries
-pub mod Sweeping
-pub mod Parts
 pub mod Differences
 pub mod Sound
 pub mod Counting

@@ -14,10 +14,8 @@ ghost use Rattle.rows.specs.Faults as scan;
 
 pub mod envelopes;
 pub mod found;
-pub mod inner;
 
 pub use found::Scan;
-pub use inner::sweep;
 
 // ---- whole rows
 

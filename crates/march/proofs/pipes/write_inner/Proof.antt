@@ -3,7 +3,7 @@ use mathlib.Core.Path.{_≡_, refl, ap}
 use lib.ListN.{length}
 use native.Mathlib.Omega.{arith}
 use borrow.Author.Needs.{needs}
-use Rattle.rows.specs.Sweep.{innerHead, innerFlow}
+use Rattle.sweep.specs.Sweep.{innerHead, innerFlow}
 use Rattle.march.specs.March.{laidOf}
 use Rattle.march.proofs.Accept.{Within, within, few-sections, few-reaches, pairs-accepted, friction-long}
 use Rattle.march.proofs.Inner.{cut-to-pipe, put-back}

@@ -1,8 +1,8 @@
--- `rows::inner::friction_at` meets its contract: R stands eight bytes a reach. Assumes nothing.
+-- `sweep::friction_at` meets its contract: R stands eight bytes a reach. Assumes nothing.
 use borrow.Author.Needs.{needs}
 use Rattle.fields.specs.Bytes.{finiteAt}
-use Rattle.rows.proofs.inner.friction_at.Statement.{statement}
-use Rattle.rows.proofs.inner.friction_at.Tie as tie
+use Rattle.sweep.proofs.friction_at.Statement.{statement}
+use Rattle.sweep.proofs.friction_at.Tie as tie
 
 f64-at-requires : tie.Need-f64-at-requires
 unfolding finiteAt

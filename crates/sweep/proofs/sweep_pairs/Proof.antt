@@ -1,4 +1,4 @@
--- `rows::inner::sweep_pairs` meets its contract: each turn stores two sections more, and carries the CP of the next two. Assumes nothing.
+-- `sweep::sweep_pairs` meets its contract: each turn stores two sections more, and carries the CP of the next two. Assumes nothing.
 use mathlib.Core.Path.{_≡_}
 use Prim.Native.Nat.{_-_}
 use native.Mathlib.Omega.{arith}
@@ -6,10 +6,10 @@ use lib.ListN.{length}
 use denote.Ref.{now}
 use Rattle.loops.proofs.Fill.{Upto, upto-none, fill-none, upto-more}
 use Rattle.loops.proofs.All.{all-at}
-use Rattle.rows.specs.Sweep.{twoCpAt, innerHead, innerFlow}
-use Rattle.rows.proofs.Sweeping.{carried, still-cut}
-use Rattle.rows.proofs.inner.sweep_pairs.Statement.{statement}
-use Rattle.rows.proofs.inner.sweep_pairs.Tie as tie
+use Rattle.sweep.specs.Sweep.{twoCpAt, innerHead, innerFlow}
+use Rattle.sweep.proofs.Sweeping.{carried, still-cut}
+use Rattle.sweep.proofs.sweep_pairs.Statement.{statement}
+use Rattle.sweep.proofs.sweep_pairs.Tie as tie
 
 abbrev Inv-loop : tie.InvT-loop
 Inv-loop friction s heads flows new-heads₀ new-flows₀ cp₀ i₀ new-heads new-flows cp i =

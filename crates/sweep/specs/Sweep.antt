@@ -1,21 +1,22 @@
--- The inner sections of a pipe after a step, from rows cut to the pipe: reach i joins its sections i and i + 1. Definitions only.
+-- The inner sections of a pipe after a step, from rows cut to the pipe: reach i joins its sections i and i + 1.
+-- Past its end a row reads as +0. Definitions only.
 use mathlib.Core.Path.{_≡_}
 use mathlib.Core.Bool.{true}
 use mathlib.Core.List.{List}
 use Prim.Native.Nat.{ℕ, suc, _+_, _-_, _*_, _≤_}
-use lib.ListN.{length}
+use lib.ListN.{length, getD}
 use lib.Ieee.{Float}
 use lib.Ieee.Scale.{finite}
+use Rattle.fields.specs.Real.{zero64}
 use Rattle.loops.specs.Loops.{allBelow}
 use Rattle.wave.specs.declared.HeadFlow.{HeadFlow}
 use Rattle.wave.specs.Wave.{fromAbove, fromBelow, inner}
 use Rattle.job.specs.Format.{rIn}
-use Rattle.rows.specs.declared.inner.TwoCp.{TwoCp}
-use Rattle.rows.specs.Rows.{entry}
+use Rattle.sweep.specs.declared.TwoCp.{TwoCp}
 
 -- CP of section i + 1: along reach i from the section above.
 abbrev pub cpAt : List ℕ → Float → List Float → List Float → ℕ → Float
-cpAt friction S heads flows i = fromAbove S (rIn friction i) (entry heads i) (entry flows i)
+cpAt friction S heads flows i = fromAbove S (rIn friction i) (getD heads i zero64) (getD flows i zero64)
 
 -- CP of sections i + 1 and i + 2
 abbrev pub twoCpAt : List ℕ → Float → List Float → List Float → ℕ → TwoCp
@@ -27,7 +28,7 @@ unfoldable pub innerAt : List ℕ → Float → List Float → List Float → �
 innerAt friction S heads flows i =
     inner S
     (cpAt friction S heads flows i)
-    (fromBelow S (rIn friction (suc i)) (entry heads (suc (suc i))) (entry flows (suc (suc i))))
+    (fromBelow S (rIn friction (suc i)) (getD heads (suc (suc i)) zero64) (getD flows (suc (suc i)) zero64))
 
 unfoldable pub innerHead : List ℕ → Float → List Float → List Float → ℕ → Float
 innerHead friction S heads flows i = innerAt friction S heads flows i .head

@@ -1,4 +1,4 @@
--- `rows::inner::write_pair` meets its contract: the two sections that are stored are the pipe's own, and so are the two CP. Assumes nothing.
+-- `sweep::write_pair` meets its contract: the two sections that are stored are the pipe's own, and so are the two CP. Assumes nothing.
 use mathlib.Core.Path.{_≡_, ap}
 use Prim.Native.Nat.{suc, _+_}
 use native.Mathlib.Omega.{arith}
@@ -7,11 +7,11 @@ use denote.Ref.{now}
 use Rattle.loops.proofs.Fill.{fill-two}
 use Rattle.loops.proofs.All.{all-at}
 use Rattle.wave.specs.declared.HeadFlow.{HeadFlow}
-use Rattle.rows.specs.declared.inner.TwoCp.{TwoCp}
-use Rattle.rows.specs.Sweep.{innerHead, innerFlow}
-use Rattle.rows.proofs.Sweeping.{carried, worked-out}
-use Rattle.rows.proofs.inner.write_pair.Statement.{statement}
-use Rattle.rows.proofs.inner.write_pair.Tie as tie
+use Rattle.sweep.specs.declared.TwoCp.{TwoCp}
+use Rattle.sweep.specs.Sweep.{innerHead, innerFlow}
+use Rattle.sweep.proofs.Sweeping.{carried, worked-out}
+use Rattle.sweep.proofs.write_pair.Statement.{statement}
+use Rattle.sweep.proofs.write_pair.Tie as tie
 
 inner-along-requires : tie.Need-inner-along-requires
 inner-along-requires c κs = (omega arith, all-at _ _ _ (c .before .before .before .before .before .before .before .before .before .pre .0 .friction-finite) (omega arith))

@@ -1,4 +1,4 @@
--- `rows::inner::sweep_rest` meets its contract: each turn stores the head and the flow of one section. Assumes nothing.
+-- `sweep::sweep_rest` meets its contract: each turn stores the head and the flow of one section. Assumes nothing.
 use mathlib.Core.Path.{ap}
 use Prim.Native.Nat.{_+_, _-_, _≤_}
 use native.Mathlib.Nat.{sub-self}
@@ -8,10 +8,10 @@ use denote.Ref.{now}
 use Rattle.loops.proofs.Fill.{Upto, upto-none, upto-done, upto-from}
 use Rattle.loops.proofs.All.{all-at}
 use Rattle.wave.specs.declared.HeadFlow.{HeadFlow}
-use Rattle.rows.specs.Sweep.{innerHead, innerFlow}
-use Rattle.rows.proofs.Sweeping.{carried, worked-out}
-use Rattle.rows.proofs.inner.sweep_rest.Statement.{statement}
-use Rattle.rows.proofs.inner.sweep_rest.Tie as tie
+use Rattle.sweep.specs.Sweep.{innerHead, innerFlow}
+use Rattle.sweep.proofs.Sweeping.{carried, worked-out}
+use Rattle.sweep.proofs.sweep_rest.Statement.{statement}
+use Rattle.sweep.proofs.sweep_rest.Tie as tie
 
 abbrev Inv-loop : tie.InvT-loop
 Inv-loop friction s heads flows new-heads₀ new-flows₀ from i₀ new-heads new-flows i =

@@ -7,7 +7,7 @@ ghost use lib.Ieee.Scale.{finite};
 ghost use Rattle.loops.specs.Loops.{fill};
 ghost use Rattle.wave.specs.Wave.{fromAbove, fromBelow, inner};
 ghost use Rattle.job.specs.Format.{rIn};
-ghost use Rattle.rows.specs.Sweep as pipe;
+ghost use Rattle.sweep.specs.Sweep as pipe;
 use wave::HeadFlow;
 
 // R of reach i of a pipe, from the bytes of table 3.

@@ -6,23 +6,24 @@ use Prim.Native.Nat.{ℕ, suc, _<_}
 use native.Mathlib.Omega.{arith}
 use lib.ListN.{length, getD}
 use lib.Ieee.{Float, nan}
+use Rattle.fields.specs.Real.{zero64}
+use Rattle.loops.proofs.Within.{getD-within}
 use Rattle.wave.specs.declared.HeadFlow.{HeadFlow}
 use Rattle.wave.specs.Wave.{fromAbove, fromBelow, inner}
 use Rattle.job.specs.Format.{rIn}
-use Rattle.rows.specs.Sweep.{cpAt, innerAt, CutToPipe}
-use Rattle.rows.proofs.Entries.{read}
+use Rattle.sweep.specs.Sweep.{cpAt, innerAt, CutToPipe}
 
 module _ (friction : List ℕ) (S : Float) (heads flows : List Float) (i : ℕ) where
   pub carried :
       {cp : Float} → i < length heads → i < length flows → cp ≡ fromAbove S (rIn friction i) (getD heads i nan) (getD flows i nan)
       → cp ≡ cpAt friction S heads flows i
-  carried a b e = rw (← read heads i a, ← read flows i b) e
+  carried a b e = rw (← getD-within heads i nan zero64 a, ← getD-within flows i nan zero64 b) e
 
   pub worked-out :
       {cp : Float} {x : HeadFlow} (j k : ℕ) → j ≡ suc i → k ≡ suc (suc i) → k < length heads → k < length flows → cp ≡ cpAt friction S heads flows i
       → x ≡ inner S cp (fromBelow S (rIn friction j) (getD heads k nan) (getD flows k nan)) → x ≡ innerAt friction S heads flows i
   unfolding innerAt
-  worked-out j k p q a b e h = rw (← e, ← q, ← p, ← read heads k a, ← read flows k b) h
+  worked-out j k p q a b e h = rw (← e, ← q, ← p, ← getD-within heads k nan zero64 a, ← getD-within flows k nan zero64 b) h
 
 -- new rows after stores are cut to the pipe as before
 pub still-cut :

@@ -1,10 +1,10 @@
--- `rows::inner::sweep` meets its contract: the sections that are worked out two a turn and those that are worked out after them are all of them. Assumes nothing.
+-- `sweep::sweep` meets its contract: the sections that are worked out two a turn and those that are worked out after them are all of them. Assumes nothing.
 use native.Mathlib.Omega.{arith}
 use borrow.Author.Needs.{needs}
 use Rattle.loops.proofs.Fill.{upto-done, upto-more}
-use Rattle.rows.proofs.Sweeping.{still-cut}
-use Rattle.rows.proofs.inner.sweep.Statement.{statement}
-use Rattle.rows.proofs.inner.sweep.Tie as tie
+use Rattle.sweep.proofs.Sweeping.{still-cut}
+use Rattle.sweep.proofs.sweep.Statement.{statement}
+use Rattle.sweep.proofs.sweep.Tie as tie
 
 sweep-rest-requires : tie.Need-sweep-rest-requires
 sweep-rest-requires c κs =
