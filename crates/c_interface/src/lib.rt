@@ -1,7 +1,6 @@
 // The calls of Vintuqay for programs in C: the same contracts as in Rattle, each answer one number.
 // docs/src/c/vintuqay.h declares them.
 ghost use mathlib.Core.Path.{_≡_};
-ghost use Prim.Native.Nat.{ℕ};
 ghost use lib.ListN.{length};
 ghost use Rattle.root.specs.Root.{rootOf};
 ghost use Rattle.job.specs.Answer.{readAnswer};

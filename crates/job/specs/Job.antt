@@ -1,6 +1,6 @@
 -- A job as it is run, whatever bytes it came from. Definitions only.
 use mathlib.Core.List.{List, [], _∷_}
-use Prim.Native.Nat.{ℕ, zero, suc, _+_, _-_, min}
+use Prim.Native.Nat.{ℕ, suc, _+_, _-_, min}
 use lib.ListN.{length, getD}
 use lib.Ieee.{Float}
 use Rattle.fields.specs.Real.{zero64}

@@ -7,7 +7,7 @@
 --                    upto-from   a turn of a loop that begins at a
 -- fill-list   what is filled from the first entry on is a list, and then the rest;  fill-part   a part filled and put back is the whole filled from there
 -- Assumes nothing.
-use mathlib.Core.Path.{_≡_, refl, sym, _∙_, ap, subst}
+use mathlib.Core.Path.{_≡_, refl, sym, _∙_, ap}
 use mathlib.Core.Logic.{⊎-elim}
 use mathlib.Core.List.{List, [], _∷_, _++_}
 use Prim.Native.Nat.{ℕ, zero, suc, _+_, _-_, _<_, _≤_}

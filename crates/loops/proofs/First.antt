@@ -1,7 +1,7 @@
 -- A loop that asks v of 0, 1, .., and returns the first answer that is not `none`. `pick a b` is a where a is an answer, and b where a is `none`.
 -- In a loop:  first-none, first-more   none so far;  first-stop   the answer where one is found
 -- Assumes nothing.
-use mathlib.Core.Path.{_≡_, refl, sym, _∙_}
+use mathlib.Core.Path.{_≡_, refl}
 use mathlib.Core.Logic.{⊎-elim}
 use Prim.Native.Nat.{ℕ, zero, suc, _+_, _<_}
 use native.Mathlib.Nat.{le-of-suc-le-suc, not-suc-le-zero, eq-or-lt-of-le}

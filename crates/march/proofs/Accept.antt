@@ -1,8 +1,8 @@
 -- What a step takes from acceptance: the counts, and where a laid pipe lies. Assumes nothing.
-use mathlib.Core.Path.{_≡_, refl, ap, _∙_}
+use mathlib.Core.Path.{_≡_, ap, _∙_}
 use mathlib.Core.Bool.{true, false}
 use mathlib.Core.List.{List}
-use Prim.Native.Nat.{ℕ, suc, _+_, _*_, _/_, _≤_, _<_}
+use Prim.Native.Nat.{ℕ, suc, _+_, _*_, _≤_, _<_}
 use native.Mathlib.Omega.{arith}
 use lib.Dec.{eqb}
 use lib.ListN.{length}
@@ -10,14 +10,14 @@ use lib.Ieee.Scale.{finite}
 use borrow.Author.Tests.{ne-eqb}
 use Rattle.fields.specs.Real.{zero64}
 use Rattle.job.specs.Job.{Laid, sections, frictionAt}
-use Rattle.job.specs.Format.{jobOf, pipeTable, nodeTable, frictionTable, pipeCount, pipesIn, reachesOf, nodeCount, rIn, frictionIn}
+use Rattle.job.specs.Format.{jobOf, pipeTable, nodeTable, frictionTable, pipeCount, nodeCount, rIn, frictionIn}
 use Rattle.job.specs.Questions.{Accepted, pairQuestions, firstNo, rFits}
 use Rattle.job.proofs.FirstNo.{none-refused}
 use Rattle.job.proofs.Tables.{both}
 use Rattle.job.proofs.Listed.{getD-listed}
 use Rattle.job.proofs.SectionLaws.{r-fits}
 use Rattle.job.proofs.Accepted.{GoodPipe, pipe-good, pipes-length, nodes-length, pipe-limits, node-limits, section-limit, friction-length, friction-fits}
-use Rattle.march.specs.March.{sectionsTo, reachesTo, laidIn, pipeOf, LaidPipe}
+use Rattle.march.specs.March.{reachesTo, laidIn, pipeOf, LaidPipe}
 use Rattle.march.proofs.Order.{sections-count, reaches-count, sections-within, reaches-within, fewer-reaches}
 
 module _ (job : List ℕ) (ok : Accepted job) where

@@ -1,15 +1,15 @@
 -- The old state that heads and flows give: a step reads of it what stands in the two rows. Assumes nothing.
-use mathlib.Core.Path.{_≡_, refl, sym, ap, _∙_}
+use mathlib.Core.Path.{_≡_, sym, ap, _∙_}
 use mathlib.Core.List.{List}
 use Prim.Native.Nat.{ℕ, _<_}
 use native.Mathlib.Omega.{arith}
-use lib.ListN.{length, getD}
+use lib.ListN.{getD}
 use lib.Ieee.{Float, nan}
 use Rattle.fields.specs.Real.{zero64}
 use Rattle.loops.proofs.Within.{getD-within}
 use Rattle.job.specs.Job.{sections}
-use Rattle.job.specs.Format.{listed, jobOf}
-use Rattle.recurrence.specs.State.{Point, State, pointAt, noPoint}
+use Rattle.job.specs.Format.{jobOf}
+use Rattle.recurrence.specs.State.{Point, pointAt, noPoint}
 use Rattle.recurrence.proofs.Listed.{getD-listed}
 use Rattle.march.specs.March.{held, old, Lent}
 

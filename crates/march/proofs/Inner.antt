@@ -1,23 +1,21 @@
 -- The inner sections of a laid pipe: rows and friction are cut to it, swept, and put back. Assumes nothing.
 use mathlib.Core.Path.{_≡_, refl, sym, ap, _∙_}
-use mathlib.Core.Bool.{true}
 use mathlib.Core.List.{List, _++_}
 use Prim.Native.Nat.{ℕ, suc, _+_, _-_, _*_, _≤_, _<_}
 use native.Mathlib.Omega.{arith}
-use lib.ListN.{length, getD, take, drop}
+use lib.ListN.{length, take, drop}
 use lib.Ieee.{Float}
 use Rattle.fields.specs.Real.{zero64}
 use Rattle.loops.specs.Loops.{fill}
 use Rattle.loops.proofs.Fill.{fill-part}
 use Rattle.wave.specs.declared.HeadFlow.{HeadFlow}
 use Rattle.job.specs.Job.{Laid, sections}
-use Rattle.job.specs.Format.{jobOf, frictionTable, rIn}
-use Rattle.recurrence.specs.State.{pointAt}
+use Rattle.job.specs.Format.{jobOf, frictionTable}
 use Rattle.recurrence.specs.Step.{inputs, between}
 use Rattle.sweep.specs.Sweep.{innerAt, CutToPipe}
 use Rattle.sweep.proofs.Parts.{part-length, part-at, r-part, r-part-finite}
 use Rattle.sweep.proofs.InState.{inner-is}
-use Rattle.march.specs.March.{LaidPipe, Lent, held, old}
+use Rattle.march.specs.March.{LaidPipe, Lent, old}
 use Rattle.march.proofs.Accept.{Within, within, friction-long, friction-finite, friction-read}
 use Rattle.march.proofs.Held.{held-head, held-flow}
 use Rattle.march.proofs.Filling.{fill-cong}

@@ -1,15 +1,15 @@
 -- The laid pipes of a job, counted from the first: pipe p begins where the pipes before it end. Assumes nothing.
-use mathlib.Core.Path.{_≡_, refl, sym, ap, ap₂, _∙_}
+use mathlib.Core.Path.{_≡_, refl, ap₂, _∙_}
 use mathlib.Core.Logic.{⊎-elim}
-use mathlib.Core.List.{List, [], _∷_}
+use mathlib.Core.List.{List, _∷_}
 use mathlib.Core.Option.{some}
 use Prim.Native.Nat.{ℕ, zero, suc, _+_, _<_, _≤_}
 use native.Mathlib.Nat.{zero-add, le-of-suc-le-suc, eq-or-lt-of-le, not-suc-le-zero}
 use native.Mathlib.Omega.{arith}
 use lib.ListN.{getElem?, take}
 use lib.Seq.{take-all}
-use Rattle.job.specs.Job.{Job, Pipe, Laid, laidFrom, laid, sectionsOf, sections}
-use Rattle.job.specs.Format.{listed, jobOf, pipesIn, pipeTable, pipeCount, pipeIn, reachesOf}
+use Rattle.job.specs.Job.{Pipe, Laid, laidFrom, laid, sectionsOf, sections}
+use Rattle.job.specs.Format.{listed, jobOf, pipesIn, pipeTable, pipeCount, reachesOf}
 use Rattle.job.proofs.Listed.{length-listed, at-listed}
 use Rattle.march.specs.March.{sectionsTo, reachesTo, laidIn, pipeOf, LaidPipe}
 

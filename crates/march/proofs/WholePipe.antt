@@ -1,11 +1,9 @@
 -- A pipe written end to end, and each section found where its pipe is laid. Assumes nothing.
-use mathlib.Core.Path.{_≡_, refl, sym, ap, _∙_}
-use mathlib.Core.Bool.{true, cond}
+use mathlib.Core.Path.{_≡_, refl, ap, _∙_}
 use mathlib.Core.List.{List}
 use Prim.Native.Nat.{ℕ, zero, suc, _+_, _-_, _≤_, _<_}
 use native.Mathlib.Nat.{zero-add}
 use native.Mathlib.Omega.{arith}
-use lib.Dec.{eqb}
 use lib.ListN.{getD, set, replicate}
 use lib.Ieee.{Float, nan}
 use borrow.Author.Tests.{eq-eqb, ne-eqb}
@@ -18,7 +16,7 @@ use Rattle.job.specs.Job.{Laid, laid}
 use Rattle.job.specs.Format.{jobOf, nodeTable, nodeCount}
 use Rattle.job.specs.Questions.{Accepted}
 use Rattle.recurrence.specs.State.{State}
-use Rattle.recurrence.specs.Step.{Inputs, inputs, along, kAtStart, kAtFinish, headAt, located, atStart, atFinish, cpAfter, cmBefore, between, newIn, newAt}
+use Rattle.recurrence.specs.Step.{Inputs, inputs, along, kAtStart, kAtFinish, headAt, atStart, atFinish, cpAfter, cmBefore, between, newIn, newAt}
 use Rattle.recurrence.proofs.Laying.{laid-located}
 use Rattle.march.specs.March.{LaidPipe, old, nodeHeads, newBy, newInPipe, newSection}
 use Rattle.march.proofs.Order.{laid-pipe}

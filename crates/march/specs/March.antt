@@ -8,11 +8,10 @@ use lib.ListN.{length, getD, replicate}
 use lib.Ieee.{Float, nan}
 use Rattle.fields.specs.Real.{zero64}
 use Rattle.loops.specs.Loops.{fill}
-use Rattle.wave.specs.declared.Sums.{Sums}
 use Rattle.wave.specs.declared.HeadFlow.{HeadFlow}
 use Rattle.wave.specs.Wave.{sumFrom, startEnd, finishEnd}
 use Rattle.wave.specs.Nodes.{nodeHead}
-use Rattle.job.specs.Job.{Job, Pipe, Laid, laid, sections}
+use Rattle.job.specs.Job.{Pipe, Laid, laid, sections}
 use Rattle.job.specs.Format.{listed, jobOf, pipeTable, nodeTable, pipeCount, pipeIn, nodeCount}
 use Rattle.job.specs.Questions.{Accepted}
 use Rattle.recurrence.specs.State.{State}

@@ -1,6 +1,6 @@
 // A pipe with the numbers of its first section and of its first reach.
 ghost use mathlib.Core.Path.{_≡_};
-ghost use Prim.Native.Nat.{ℕ, _<_, _≤_};
+ghost use Prim.Native.Nat.{_<_, _≤_};
 ghost use Rattle.job.specs.Format.{pipeTable, pipeCount};
 ghost use Rattle.job.specs.Questions.{Accepted};
 ghost use Rattle.march.specs.March.{laidIn, laidOf, pipeOf, Walked};

@@ -3,13 +3,13 @@ use mathlib.Core.Path.{_≡_, refl}
 use mathlib.Core.Bool.{Bool, true, false, cond, not, _&&_}
 use mathlib.Core.List.{List, [], _∷_}
 use mathlib.Core.Option.{some}
-use Prim.Native.Nat.{ℕ, zero, suc, _≤_, _<_}
+use Prim.Native.Nat.{ℕ, zero, suc, _≤_}
 use native.Mathlib.Omega.{arith}
 use lib.ListN.{getElem?}
 use lib.Dec.{leb, ltb, eqb}
 use borrow.Author.Tests.{leb-true, ltb-true}
 use Rattle.loops.proofs.All.{all-at}
-use Rattle.job.specs.Job.{Job, Pipe}
+use Rattle.job.specs.Job.{Pipe}
 use Rattle.job.specs.Format.{pipeTable, nodeTable, pipeCount, pipeIn, pipesIn, nodeCount, jobOf}
 use Rattle.job.specs.Questions.{Question, joins, pipesJoin, pairQuestions, pipeQuestions, nodeQuestions, valueQuestions, questions, firstNo, refusal, Accepted}
 use Rattle.recurrence.proofs.Tests.{both}

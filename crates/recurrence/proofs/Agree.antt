@@ -7,7 +7,6 @@ use lib.ListN.{getElem?}
 use Rattle.job.specs.Job.{Job, Laid, laid, laidFrom, sections, sectionsOf, frictionAt, initialAt}
 use Rattle.recurrence.specs.State.{State, pointAt, noPoint, startPoint, startState}
 use Rattle.recurrence.specs.Step.{inputs, nodeNow, newPoint, advanced}
-use Rattle.recurrence.specs.Scan.{finished}
 use Rattle.recurrence.specs.Paths.{EndAt, Beside}
 use Rattle.recurrence.proofs.Listed.{getD-listed-cong, listed-cong}
 use Rattle.recurrence.proofs.Cone.{Local, point-alike}

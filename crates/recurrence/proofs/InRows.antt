@@ -1,16 +1,14 @@
 -- Demand 3 in the rows and answers that a caller sees: the theorem on lists of calls, through what ties the public calls to them. Assumes nothing.
-use mathlib.Core.Path.{_≡_, refl, sym, ap, _∙_}
+use mathlib.Core.Path.{_≡_, sym, ap, _∙_}
 use mathlib.Core.List.{List, map}
-use mathlib.Core.Option.{some}
-use Prim.Native.Nat.{ℕ, suc, _<_}
-use lib.ListN.{getElem?}
-use Rattle.job.specs.Job.{Job, laid, sections, sectionsOf}
+use Prim.Native.Nat.{ℕ, _<_}
+use Rattle.job.specs.Job.{sections, sectionsOf}
 use Rattle.job.specs.Format.{jobOf}
 use Rattle.recurrence.specs.State.{pointAt}
-use Rattle.recurrence.specs.Run.{Call, played, answers, stepsDone}
+use Rattle.recurrence.specs.Run.{Call, played}
 use Rattle.recurrence.specs.Calls.{Rows, pointIn}
-use Rattle.recurrence.specs.Demand.{AlikeBut, AlikeBefore, BothDone, Carried}
-use Rattle.recurrence.specs.Lent.{LentCall, Started, heldAtStart, heldBy, answersBy, Chained, callOf, CarriedInRows, Demand3InRows}
+use Rattle.recurrence.specs.Demand.{BothDone}
+use Rattle.recurrence.specs.Lent.{LentCall, heldBy, callOf, Demand3InRows}
 use Rattle.recurrence.proofs.Runs.{played-counts}
 use Rattle.recurrence.proofs.Theorem.{demand-3}
 use Rattle.recurrence.proofs.Tied.{Follows, begun, holds-point, calls-follow}

@@ -1,13 +1,10 @@
 -- A list of f 0, f 1, .., f (n - 1): entry s turns on f s alone. Assumes nothing.
 use mathlib.Core.Path.{_≡_, refl, ap}
-use mathlib.Core.List.{List, [], _∷_, map}
-use mathlib.Core.Option.{some}
-use Prim.Native.Nat.{ℕ, zero, suc, _≤_, _<_, zero-le, suc-le-suc}
-use native.Mathlib.Nat.{le-of-suc-le-suc, not-suc-le-zero}
-use native.Mathlib.Omega.{arith}
-use lib.ListN.{length, getD, getElem?}
+use mathlib.Core.List.{_∷_, map}
+use Prim.Native.Nat.{ℕ, zero, suc, _<_, zero-le, suc-le-suc}
+use lib.ListN.{getD}
 use Rattle.job.specs.Format.{listed}
-pub use Rattle.job.proofs.Listed.{length-listed, getD-listed}
+pub use Rattle.job.proofs.Listed.{length-listed, getD-listed, listed-some}
 
 module _ {A : Type 0} where
   -- also past the end
@@ -16,12 +13,6 @@ module _ {A : Type 0} where
   getD-listed-cong zero f g s d h = refl
   getD-listed-cong (suc n) f g zero d h = h
   getD-listed-cong (suc n) f g (suc s) d h = getD-listed-cong n (λ t. f (suc t)) (λ t. g (suc t)) s d h
-
-  pub listed-some : (n : ℕ) (f : ℕ → A) (s : ℕ) (a : A) → getElem? (listed n f) s ≡ some a → (s < n) × (f s ≡ a)
-  unfolding listed
-  listed-some zero f s a e = let z : _≡_ {A = ℕ} 0 1 = cc in (absurd (omega arith), cc)
-  listed-some (suc n) f zero a e = (omega arith, cc)
-  listed-some (suc n) f (suc s) a e = let h = listed-some n (λ t. f (suc t)) s a e in (omega arith, h .1)
 
   pub listed-cong : (n : ℕ) (f g : ℕ → A) → ((s : ℕ) → s < n → f s ≡ g s) → listed n f ≡ listed n g
   unfolding listed

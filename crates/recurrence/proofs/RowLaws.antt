@@ -3,9 +3,9 @@
 -- Of the six:  state-at;  state-of-rows   the rows that a call leaves hold its state;  enough-lengths, lengths-enough   question 20
 use mathlib.Core.Path.{_≡_, refl, sym, ap, _∙_, subst}
 use mathlib.Core.Bool.{true, _&&_}
-use mathlib.Core.List.{List, [], _∷_, _++_, map}
-use Prim.Native.Nat.{ℕ, zero, suc, _+_, _-_, _≤_, _<_}
-use native.Mathlib.Nat.{le-of-suc-le-suc, not-suc-le-zero, zero-add}
+use mathlib.Core.List.{List, _++_, map}
+use Prim.Native.Nat.{ℕ, _+_, _-_, _≤_, _<_}
+use native.Mathlib.Nat.{zero-add}
 use native.Mathlib.Decide.{decLt}
 use native.Mathlib.Omega.{arith}
 use lib.Dec.{leb}
@@ -18,16 +18,12 @@ use Rattle.loops.specs.Loops.{fill}
 use Rattle.loops.proofs.Fill.{length-fill, fill-in, fill-above}
 use Rattle.recurrence.specs.State.{Point, State, noPoint, pointAt}
 use Rattle.recurrence.specs.Calls.{Rows, enoughLent, pointIn, stateIn, rowOf, rowsOf}
+use Rattle.loops.proofs.Within.{getD-within}
 use Rattle.recurrence.proofs.Tests.{both}
 use Rattle.recurrence.proofs.Listed.{length-listed, getD-listed}
 use Rattle.recurrence.proofs.Tied.{holds-state, rows-hold}
 
 -- ---- one row
-
-getD-default : (l : List Float) (s : ℕ) (d e : Float) → s < length l → getD l s d ≡ getD l s e
-getD-default [] s d e h = absurd (not-suc-le-zero h)
-getD-default (x ∷ xs) zero d e h = refl
-getD-default (x ∷ xs) (suc s) d e h = getD-default xs s d e (le-of-suc-le-suc h)
 
 module _ (n : ℕ) (st : State) (f : Point → Float) (lent : List Float) (long : length (st .points) ≡ n) where
   map-long : length (map f (st .points)) ≡ n
@@ -38,7 +34,7 @@ module _ (n : ℕ) (st : State) (f : Point → Float) (lent : List Float) (long 
   row-at s d h =
       let l : s < length (map f (st .points)) = omega (arith, map-long) in
       List·getD-append (map f (st .points)) (drop n lent) d s l
-      ∙ getD-default (map f (st .points)) s d (f noPoint) l
+      ∙ getD-within (map f (st .points)) s d (f noPoint) l
       ∙ List·getD-map f (st .points) s noPoint
 
   past : (k : ℕ) (d : Float) → getD (rowOf n st f lent) (n + k) d ≡ getD lent (n + k) d

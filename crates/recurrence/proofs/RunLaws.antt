@@ -1,15 +1,15 @@
 -- A run-on's questions and steps, as loops work them out: over the rows' entries, and one step at a time. Assumes nothing.
 use mathlib.Core.Path.{_≡_, refl, sym, ap, ap₂, _∙_}
 use mathlib.Core.Bool.{Bool, true, false, _&&_, true≢false}
-use Prim.Native.Nat.{ℕ, zero, suc, _+_, _-_, _≤_, _<_}
+use Prim.Native.Nat.{ℕ, zero, suc, _+_, _-_, _<_}
 use native.Mathlib.Nat.{zero-add}
 use native.Mathlib.Omega.{arith}
 use lib.Ieee.{Float}
 use Rattle.loops.specs.Loops.{allBelow, firstBelow}
 use Rattle.job.specs.Job.{Job, laid, sections, floorAt}
-use Rattle.recurrence.specs.State.{Point, State, pointAt}
+use Rattle.recurrence.specs.State.{Point, State}
 use Rattle.recurrence.specs.Step.{inputs, newPoint, advanced}
-use Rattle.recurrence.specs.Scan.{Cause, Fault, none, fault, faultOf, earlier, scan, Outcome, finished, stopped, outcomeOf, step, acceptableAt, acceptable}
+use Rattle.recurrence.specs.Scan.{Cause, none, fault, faultOf, earlier, scan, Outcome, finished, stopped, outcomeOf, step, acceptableAt, acceptable}
 use Rattle.recurrence.specs.Run.{Run, Result, refused, ran, completed, stop, onward, steps}
 use Rattle.recurrence.specs.Calls.{Rows, pointIn, stateIn}
 use Rattle.recurrence.proofs.RowLaws.{state-at}

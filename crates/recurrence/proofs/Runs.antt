@@ -4,9 +4,9 @@ use mathlib.Core.List.{List, [], _∷_}
 use Prim.Native.Nat.{ℕ, zero, suc, _+_, _<_}
 use native.Mathlib.Omega.{arith}
 use lib.ListN.{length}
-use Rattle.job.specs.Job.{Job, laid, sections}
+use Rattle.job.specs.Job.{Job, sections}
 use Rattle.recurrence.specs.State.{State, startState}
-use Rattle.recurrence.specs.Step.{inputs, newPoint, advanced}
+use Rattle.recurrence.specs.Step.{advanced}
 use Rattle.recurrence.specs.Scan.{Fault, none, fault, scan, Outcome, finished, stopped, outcomeOf, step, acceptable}
 use Rattle.recurrence.specs.Run.{Run, Result, refused, ran, Ending, completed, stop, ask, Call, onward, steps, withinLimit, runOn, started, leftBy, playedFrom, played, oneMore, finishedOf, ifRan, stepsBy, stepsDoneFrom, stepsDone}
 use Rattle.recurrence.proofs.Tests.{cond-all}

@@ -1,22 +1,18 @@
 -- The bound is sharp: job Q with its reservoir at 10 and at 12, and section 2, two reaches off. Assumes nothing.
 use mathlib.Core.Path.{_≡_, refl, sym, ap}
-use mathlib.Core.Bool.{true}
-use mathlib.Core.List.{List, [], _∷_}
+use mathlib.Core.List.{List}
 use mathlib.Core.Option.{Option, none, some}
-use Prim.Native.Nat.{ℕ, zero, suc, _+_, _-_, _≤_, _<_}
+use Prim.Native.Nat.{ℕ, zero, suc, _-_, _≤_}
 use native.Mathlib.Omega.{arith}
 use lib.ListN.{getElem?}
-use lib.Ieee.{Float, binary64, toBits}
-use Rattle.fields.specs.Real.{zero64, one64, two64, four64}
-use Rattle.wave.specs.Figures.{num}
-use Rattle.job.specs.Job.{Job, Laid, reservoir, valve, laid, laidFrom, sections, nodeAt}
+use lib.Ieee.{binary64, toBits}
+use Rattle.job.specs.Job.{Laid, laid, nodeAt}
 use Rattle.job.specs.Format.{jobOf}
-use Rattle.job.specs.Questions.{Accepted}
 use Rattle.job.proofs.Figures.{jobQ}
 use Rattle.recurrence.specs.State.{Point, pointAt}
-use Rattle.recurrence.specs.Run.{Call, played}
+use Rattle.recurrence.specs.Run.{played}
 use Rattle.recurrence.specs.Paths.{EndAt, startsAt, finishesAt, Beside, down, up, PathTo, begins, along, across, AtLeast}
-use Rattle.recurrence.specs.Demand.{AlikeBut, AlikeBefore, BothDone}
+use Rattle.recurrence.specs.Demand.{AlikeBut}
 use Rattle.recurrence.specs.Figures.{jobQAt12}
 use Rattle.recurrence.specs.Sharp.{once, Sharp}
 use Rattle.recurrence.proofs.Opened.{opened}

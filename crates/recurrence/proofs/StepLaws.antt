@@ -1,7 +1,7 @@
 -- The points of a step, as a sweep over the pipes works them out: by pipe and offset, and the sums one pipe at a time. Assumes nothing.
 use mathlib.Core.Path.{_≡_, refl, sym, ap, _∙_}
 use mathlib.Core.Bool.{Bool, true, false, cond}
-use mathlib.Core.List.{List, [], _∷_, _++_}
+use mathlib.Core.List.{List, [], _∷_}
 use mathlib.Core.Option.{some}
 use Prim.Native.Nat.{ℕ, zero, suc, _+_, _≤_, _<_}
 use native.Mathlib.Omega.{arith}
@@ -9,7 +9,7 @@ use lib.Dec.{eqb}
 use lib.ListN.{length, getElem?, take}
 use lib.Ieee.{Float}
 use borrow.Author.Tests.{eq-eqb, ne-eqb}
-use Rattle.fields.specs.Real.{_⊞_, zero64}
+use Rattle.fields.specs.Real.{_⊞_}
 use Rattle.wave.specs.Wave.{sumFrom}
 use Rattle.job.specs.Job.{Job, Laid, laid, sections}
 use Rattle.recurrence.specs.State.{State, noPoint, pointAt}

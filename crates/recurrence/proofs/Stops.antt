@@ -1,15 +1,15 @@
 -- Two jobs whose steps before k are alike stop alike before k: as long as fewer steps are done, whole results are equal. Assumes nothing.
-use mathlib.Core.Path.{_≡_, refl, sym, ap}
-use mathlib.Core.Bool.{Bool, true, false, cond}
+use mathlib.Core.Path.{_≡_, refl, ap}
+use mathlib.Core.Bool.{Bool, true, false}
 use mathlib.Core.List.{List, [], _∷_}
 use mathlib.Core.Option.{some}
-use Prim.Native.Nat.{ℕ, zero, suc, _+_, _≤_, _<_}
+use Prim.Native.Nat.{ℕ, zero, suc, _≤_, _<_}
 use native.Mathlib.Omega.{arith}
 use lib.ListN.{getElem?}
 use Rattle.job.specs.Job.{Job}
 use Rattle.recurrence.specs.State.{State}
 use Rattle.recurrence.specs.Scan.{Cause, notFinite, parted, causeNumber, Outcome, finished, stopped, step, acceptable}
-use Rattle.recurrence.specs.Run.{Call, Run, Result, refused, ran, Ending, completed, stop, Answer, stopAnswer, answerOf, ask, onward, steps, withinLimit, runOn, leftBy, stepsBy, answersFrom}
+use Rattle.recurrence.specs.Run.{Call, Run, Result, refused, ran, Ending, completed, stop, Answer, stopAnswer, answerOf, ask, onward, steps, withinLimit, runOn, leftBy, answersFrom}
 use Rattle.recurrence.proofs.Runs.{steps-ran, run-on-all, call-counts}
 
 -- ---- a stop tells the steps done that it leaves

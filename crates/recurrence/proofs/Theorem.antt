@@ -1,18 +1,17 @@
 -- Demand 3: the sections that a difference can have come to by a step lie in a cone about the edited node. Assumes nothing.
-use mathlib.Core.Path.{_≡_, refl, sym, ap, ap₂, fun-ext}
+use mathlib.Core.Path.{_≡_, sym, ap, ap₂, fun-ext}
 use mathlib.Core.List.{List}
 use mathlib.Core.Option.{some}
-use Prim.Native.Nat.{ℕ, zero, suc, _+_, _-_, _≤_, _<_}
+use Prim.Native.Nat.{ℕ, suc, _+_, _-_, _≤_, _<_}
 use native.Mathlib.Decide.{ℕ-discrete}
 use native.Mathlib.Omega.{arith}
 use lib.ListN.{getElem?}
-use Rattle.loops.specs.Loops.{allBelow}
-use Rattle.job.specs.Job.{Job, Pipe, Laid, Initial, laid, sections, sectionsOf, nodeAt, initialAt, frictionAt, floorAt, scheduled, withValue}
+use Rattle.job.specs.Job.{Job, Pipe, Laid, Initial, laid, sections, sectionsOf, initialAt, frictionAt, floorAt, scheduled, withValue}
 use Rattle.job.specs.Format.{listed, jobOf}
 use Rattle.recurrence.specs.State.{State, pointAt, startPoint, startState}
-use Rattle.recurrence.specs.Step.{nodeNow, advanced}
+use Rattle.recurrence.specs.Step.{nodeNow}
 use Rattle.recurrence.specs.Scan.{scan, step, acceptable}
-use Rattle.recurrence.specs.Run.{Call, Run, started, played, answers, stepsDone}
+use Rattle.recurrence.specs.Run.{Call, started, played, answers}
 use Rattle.recurrence.specs.Paths.{EndAt, Beside, down, up, PathTo, begins, along, across, AtLeast, NoPath}
 use Rattle.recurrence.specs.Demand.{BothDone, AlikeBut, AlikeBefore, Carried, Demand3}
 use Rattle.recurrence.proofs.Laying.{laid-whole}

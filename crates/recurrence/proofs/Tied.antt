@@ -1,8 +1,8 @@
 -- The public calls, each on rows that hold what the last one left, come to what the lists of demand 3 come to: by induction over the list. Assumes nothing.
 use mathlib.Core.Path.{_≡_, refl, sym, ap, ap₂, _∙_}
-use mathlib.Core.Bool.{Bool, true, false, cond, not, _&&_}
+use mathlib.Core.Bool.{Bool, true, false, cond}
 use mathlib.Core.List.{List, [], _∷_, _++_, map}
-use Prim.Native.Nat.{ℕ, zero, suc, _+_, _≤_, _<_}
+use Prim.Native.Nat.{ℕ, _+_, _<_}
 use native.Mathlib.Omega.{arith}
 use lib.Dec.{eqb}
 use lib.ListN.{length, getD, take, drop, length-map, List·getD-map}
@@ -14,10 +14,10 @@ use Rattle.job.specs.Job.{Job, sections, initialAt}
 use Rattle.job.specs.Format.{listed, jobOf}
 use Rattle.job.specs.Questions.{refusal}
 use Rattle.recurrence.specs.State.{Point, State, noPoint, startPoint, startState}
-use Rattle.recurrence.specs.Scan.{Cause, notFinite, parted, causeNumber}
-use Rattle.recurrence.specs.Run.{Run, Result, refused, ran, Ending, completed, stop, Answer, stopAnswer, answerOf, ask, started, start, steps, Call, runOn, leftBy, playedFrom, played, answersFrom, answers, stepsDone}
-use Rattle.recurrence.specs.Calls.{Rows, enoughLent, pointIn, stateIn, rowOf, rowsOf, rowsAfter, Called, readFirst, called, startResult, startCall, runOnResult, runOnCall}
-use Rattle.recurrence.specs.Lent.{LentCall, Held, isRefusal, Started, heldAtStart, answerAt, heldAfter, heldFrom, answersTo, heldBy, answersBy, SameUpTo, Chained, callOf, Holds, Tied, CallsTied}
+use Rattle.recurrence.specs.Scan.{notFinite, parted, causeNumber}
+use Rattle.recurrence.specs.Run.{Run, Result, refused, ran, Ending, completed, stop, stopAnswer, answerOf, ask, started, start, steps, runOn, leftBy, playedFrom, played, answersFrom, answers}
+use Rattle.recurrence.specs.Calls.{Rows, enoughLent, pointIn, stateIn, rowOf, rowsOf, rowsAfter, readFirst, called, startResult, startCall, runOnResult, runOnCall}
+use Rattle.recurrence.specs.Lent.{LentCall, Held, isRefusal, Started, heldAtStart, answerAt, heldAfter, heldFrom, answersTo, heldBy, answersBy, SameUpTo, Chained, callOf, Holds, CallsTied}
 use Rattle.recurrence.proofs.Listed.{length-listed, getD-listed}
 use Rattle.recurrence.proofs.Runs.{steps-ran, run-on-all, played-counts}
 

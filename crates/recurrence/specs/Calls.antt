@@ -1,8 +1,7 @@
 -- What each public call does to the six lent rows and what it answers: one definition for each call, refusals included. Definitions only.
-use mathlib.Core.Path.{_≡_}
 use mathlib.Core.Bool.{Bool, cond, _&&_}
-use mathlib.Core.List.{List, [], _∷_, _++_, map}
-use Prim.Native.Nat.{ℕ, zero, suc}
+use mathlib.Core.List.{List, _++_, map}
+use Prim.Native.Nat.{ℕ}
 use lib.Dec.{leb, eqb}
 use lib.ListN.{length, getD, drop}
 use lib.Ieee.{Float}
@@ -11,7 +10,7 @@ use Rattle.job.specs.Job.{Job, sections}
 use Rattle.job.specs.Format.{listed, jobOf}
 use Rattle.job.specs.Questions.{refusal}
 use Rattle.recurrence.specs.State.{Point, State}
-use Rattle.recurrence.specs.Run.{Run, Result, refused, ran, Answer, answerOf, start, Call, runOn}
+use Rattle.recurrence.specs.Run.{Result, refused, ran, Answer, answerOf, start, runOn}
 
 -- "Heads, flows, two envelopes and two spare rows are lent slices of f64 numbers, to start and run-on alike."
 pub record Rows : Type 0 where

@@ -1,16 +1,14 @@
 -- Document 01's bench figures, as one table about the definitions; it is proved in proofs/Figures.antt. Definitions only.
 use mathlib.Core.Path.{_≡_}
-use mathlib.Core.List.{List, [], _∷_, _++_, map}
-use Prim.Native.Nat.{ℕ, _^_}
-use lib.ListN.{getD, set, take, replicate}
-use lib.Ieee.{Float, neg}
-use Rattle.fields.specs.Real.{zero64, infinity64}
+use mathlib.Core.List.{List, [], _∷_, _++_}
+use Prim.Native.Nat.{ℕ}
+use lib.ListN.{getD, set, replicate}
+use lib.Ieee.{neg}
+use Rattle.fields.specs.Real.{zero64}
 use Rattle.root.specs.Figures.{P10}
 use Rattle.wave.specs.Figures.{BenchFigures, _is_, num}
-use Rattle.job.specs.Job.{Job, Pipe, Kind, junction, reservoir, valve, ScheduledNode, Initial}
-use Rattle.job.proofs.Figures.{jobQ, jobOfAllKinds}
-use Rattle.recurrence.specs.State.{Point, State, startState}
-use Rattle.recurrence.specs.Run.{Answer, answerOf, started, steps, leftBy}
+use Rattle.job.proofs.Figures.{jobQ}
+use Rattle.recurrence.specs.Run.{Answer, steps}
 use Rattle.recurrence.specs.Calls.{Rows, six, Called, startCall, runOnCall}
 
 -- ---- jobs of bytes, from job Q's

@@ -7,8 +7,7 @@ use mathlib.Core.Option.{some}
 use Prim.Native.Nat.{ℕ, suc, _+_, _-_, _≤_, _<_}
 use lib.Dec.{eqb}
 use lib.ListN.{take, getElem?}
-use lib.Ieee.{Float}
-use Rattle.job.specs.Job.{Job, laid, sections}
+use Rattle.job.specs.Job.{laid, sections}
 use Rattle.job.specs.Format.{jobOf}
 use Rattle.recurrence.specs.State.{Point}
 use Rattle.recurrence.specs.Scan.{Cause}

@@ -2,8 +2,8 @@
 use mathlib.Core.Path.{_≡_}
 use mathlib.Core.Bool.{true}
 use mathlib.Core.List.{List, [], _∷_}
-use Prim.Native.Nat.{ℕ, _+_, _-_, _≤_, _<_}
-use Rattle.job.specs.Job.{Job, laid, sections}
+use Prim.Native.Nat.{ℕ, _+_, _-_, _<_}
+use Rattle.job.specs.Job.{laid, sections}
 use Rattle.job.specs.Format.{jobOf}
 use Rattle.job.specs.Questions.{Accepted}
 use Rattle.recurrence.specs.State.{pointAt}

@@ -4,7 +4,7 @@ use Prim.Native.Nat.{ℕ, zero, suc, _+_, _-_, _*_, _/_, _%_, _^_, _≤_, _<_}
 use native.Mathlib.Nat.{not-le-of-lt}
 use native.Mathlib.Omega.{arith}
 use mathlib.Core.Bool.{Bool, true, false, not, cond, true≢false}
-use lib.Dec.{T, ltb, eqb·suc-zero, not-T, ltb→lt}
+use lib.Dec.{T, ltb, not-T, ltb→lt}
 use lib.Ieee.{Float, nan, inf, fin, binary64, size, fits, isNan, ne, lt, div, ofBits, toBits, nanBits}
 use lib.Ieee.Bits.{ofBits-fits, nanBits-above}
 use lib.Ieee.Compare.{differs-from-itself, nan-differs}

@@ -1,23 +1,20 @@
 -- The 53 leading binary digits of the root of n, and the value that they make. Nothing here turns on the relation of specs/Root.antt. Assumes nothing.
-use mathlib.Core.Path.{_≡_, refl, sym, ap, _∙_, subst}
-use mathlib.Core.Logic.{_⊎_, inl, inr}
-use Prim.Native.Nat.{ℕ, zero, suc, _+_, _-_, _*_, _/_, _%_, _^_, _≤_, _<_, zero-le}
-use native.Mathlib.Nat.{le-refl, le-trans, le-of-eq, le-of-lt, le-antisymm, lt-of-lt-of-le, lt-of-le-of-lt, zero-lt-suc, zero-mul, mul-zero, one-mul, mul-comm, mul-assoc, mul-left-comm, mul-right-comm, mul-mul-mul-comm, mul-pos, mul-le-mul-right, mul-le-mul-left, le-of-mul-le-mul-right, eq-of-mul-eq-mul-right, le-div-iff-mul-le, div-lt-iff-lt-mul, div-mul-le-self}
+use mathlib.Core.Path.{_≡_, sym, ap, _∙_, subst}
+use Prim.Native.Nat.{ℕ, _+_, _-_, _*_, _/_, _^_, _≤_, _<_}
+use native.Mathlib.Nat.{le-trans, le-of-eq, le-of-lt, lt-of-lt-of-le, one-mul, mul-comm, mul-assoc, mul-mul-mul-comm, mul-le-mul-right, le-div-iff-mul-le, div-lt-iff-lt-mul, div-mul-le-self}
 use native.Mathlib.Omega.{arith}
-use mathlib.Core.Bool.{Bool, true, false, not, _&&_, _||_, cond, true≢false}
-use lib.IntN.{ℤ, pos, negsuc}
-use lib.Dec.{T, ltb, leb, eqb, ltb→lt, nltb→le, lt→ltb, eqb→eq, lit≤, lit<}
-use lib.Pow.{pow-add, pow-pos, pow-mono, shl-lt}
-use lib.Ieee.{Float, nan, inf, fin, binary64, up, down, size, odd, units, fits, le}
+use mathlib.Core.Bool.{Bool, true, false, not}
+use lib.Dec.{T, ltb, ltb→lt, nltb→le, lit≤, lit<}
+use lib.Pow.{pow-add, pow-mono, shl-lt}
+use lib.Ieee.{inf, binary64, size, odd, units, fits, le}
 use lib.Ieee.Digits.{size-lt, size-le, size-reaches}
-use lib.Ieee.Fits.{down-pos, odd-fits, cond-fits, inf-fits}
-use lib.Ieee.Exact.{HasValue, units-val}
-use lib.Ieee.Order.{le-of-values}
+use lib.Ieee.Fits.{odd-fits, cond-fits, inf-fits}
+use lib.Ieee.Exact.{units-val}
 use Rattle.root.specs.Whole.{IsWholeRoot, wholeRoot}
 use Rattle.root.proofs.WholeLaws.{whole-root-is, at-most-root, root-below}
-use Rattle.root.specs.Root.{rootable, SquareAtMost, plus, IsRoot, cutPlaces, rootUnits, rootOf}
+use Rattle.root.specs.Root.{cutPlaces, rootUnits}
 use Rattle.root.proofs.Powers.{four-pow, four-pos, pow-lt-back}
-use Rattle.root.proofs.Patterns.{Counts, Placed, placed, count-is, count-unique}
+use Rattle.root.proofs.Patterns.{Counts}
 
 places : (n : ℕ) → 105 ≤ size n → (cutPlaces n + cutPlaces n + 104 < size n) × (size n ≤ 106 + (cutPlaces n + cutPlaces n))
 unfolding cutPlaces

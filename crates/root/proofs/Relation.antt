@@ -1,24 +1,17 @@
 -- `rootOf x` is the root of x where x may be rooted (`root-is`), and there is one root (`one-root-only`). Assumes nothing.
 use mathlib.Core.Path.{_≡_, refl, sym, ap, _∙_, subst}
-use mathlib.Core.Logic.{_⊎_, inl, inr}
-use Prim.Native.Nat.{ℕ, zero, suc, _+_, _-_, _*_, _/_, _%_, _^_, _≤_, _<_, zero-le}
-use native.Mathlib.Nat.{le-refl, le-trans, le-of-eq, le-of-lt, le-antisymm, lt-of-lt-of-le, lt-of-le-of-lt, zero-lt-suc, zero-mul, mul-zero, one-mul, mul-comm, mul-assoc, mul-left-comm, mul-right-comm, mul-mul-mul-comm, mul-pos, mul-le-mul-right, mul-le-mul-left, le-of-mul-le-mul-right, eq-of-mul-eq-mul-right, le-div-iff-mul-le, div-lt-iff-lt-mul, div-mul-le-self}
-use native.Mathlib.Omega.{arith}
-use mathlib.Core.Bool.{Bool, true, false, not, _&&_, _||_, cond, true≢false}
-use lib.IntN.{ℤ, pos, negsuc}
-use lib.Dec.{T, ltb, leb, eqb, ltb→lt, nltb→le, lt→ltb, eqb→eq, lit≤, lit<}
-use lib.Pow.{pow-add, pow-pos, pow-mono, shl-lt}
-use lib.Ieee.{Float, nan, inf, fin, binary64, up, down, size, odd, units, fits, le}
-use lib.Ieee.Digits.{size-lt, size-le, size-reaches}
-use lib.Ieee.Fits.{down-pos, odd-fits, cond-fits, inf-fits}
-use lib.Ieee.Exact.{HasValue, units-val}
+use Prim.Native.Nat.{ℕ, zero, suc, _-_, _*_, _/_, _^_, _≤_, _<_}
+use native.Mathlib.Nat.{le-refl, le-trans, le-of-eq, le-antisymm, zero-lt-suc, one-mul, mul-le-mul-right}
+use mathlib.Core.Bool.{Bool, true, false, cond, true≢false}
+use lib.IntN.{ℤ, pos}
+use lib.Dec.{T}
+use lib.Pow.{pow-pos}
+use lib.Ieee.{Float, nan, inf, fin, binary64, up, down, size, fits, le}
+use lib.Ieee.Fits.{down-pos}
 use lib.Ieee.Order.{le-of-values}
-use Rattle.root.specs.Whole.{IsWholeRoot, wholeRoot}
-use Rattle.root.proofs.WholeLaws.{whole-root-is, at-most-root, root-below}
-use Rattle.root.specs.Root.{rootable, SquareAtMost, plus, IsRoot, cutPlaces, rootUnits, rootOf}
-use Rattle.root.proofs.Powers.{four-pow, four-pos, pow-lt-back}
-use Rattle.root.proofs.Patterns.{Counts, Placed, placed, count-is, count-unique}
-use Rattle.root.proofs.Lead.{lead, cut-low, square-low, square-greatest, units-count, units-held, enough, not-many}
+use Rattle.root.specs.Root.{rootable, SquareAtMost, IsRoot, cutPlaces, rootUnits, rootOf}
+use Rattle.root.proofs.Patterns.{Counts, placed, count-is, count-unique}
+use Rattle.root.proofs.Lead.{lead, square-low, square-greatest, units-count, units-held, enough, not-many}
 use Rattle.root.proofs.Fractions.{to-units, of-units, minus-le, plus-le, same-units}
 
 -- ---- r is the greatest value whose square, in units of 2 ^ -2148, is at most n

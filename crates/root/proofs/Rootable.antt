@@ -1,15 +1,13 @@
 -- Which values may be rooted: those with the sign clear, and -0. Assumes nothing.
-use mathlib.Core.Path.{_≡_, refl, sym, ap, _∙_}
-use mathlib.Core.Bool.{Bool, true, false, not}
-use Prim.Native.Nat.{ℕ, zero, suc, _+_, _*_, _≤_, _<_}
+use mathlib.Core.Path.{_≡_, ap}
+use mathlib.Core.Bool.{true, false, not}
+use Prim.Native.Nat.{ℕ, suc, _+_, _*_}
 use native.Mathlib.Nat.{zero-mul, mul-pos, zero-lt-suc}
 use native.Mathlib.Omega.{arith}
-use lib.IntN.{ℤ, pos}
-use lib.Dec.{ltb}
+use lib.IntN.{ℤ}
 use lib.Ieee.{fin, up, down, lt, ofBits}
 use lib.Ieee.Fits.{up-pos}
 use borrow.Author.Tests.{lt-ltb, le-ltb}
-use Rattle.fields.specs.Real.{zero64}
 use Rattle.root.specs.Root.{rootable}
 
 pub plus-rootable : (m : ℕ) (e : ℤ) → rootable (fin false m e) ≡ true

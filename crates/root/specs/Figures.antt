@@ -5,7 +5,7 @@ use Prim.Native.Nat.{ℕ}
 use lib.IntN.{pos, negsuc}
 use lib.Ieee.{Float, nan, fin, binary64, ofBits, toBits}
 use Rattle.root.specs.Root.{rootOf}
-use Rattle.root.specs.Answer.{RootAnswer, refused, value, rootAnswer}
+use Rattle.root.specs.Answer.{refused, value, rootAnswer}
 
 -- the value of a bit pattern, and the pattern of the root of a bit pattern's value
 abbrev pub bits : ℕ → Float

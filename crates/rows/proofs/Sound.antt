@@ -1,6 +1,6 @@
 -- A section is sound where its head and flow are finite and its head is not below its floor; a fault is told by what the code reads of a section; and
 -- where every section is sound the scan finds none. Assumes nothing.
-use mathlib.Core.Path.{_≡_, refl, sym, ap, _∙_}
+use mathlib.Core.Path.{_≡_, refl, sym, _∙_}
 use mathlib.Core.Bool.{Bool, true, false, not, _&&_, cond}
 use mathlib.Core.List.{List}
 use Prim.Native.Nat.{ℕ, zero, suc, _+_, _*_, _/_, _<_, _≤_}

@@ -1,14 +1,13 @@
 -- A step reads heads and flows alone: two states with the same of both give the same new heads and flows. Assumes nothing.
-use mathlib.Core.Path.{_≡_, refl, ap, ap₂, fun-ext}
+use mathlib.Core.Path.{_≡_, refl, fun-ext}
 use mathlib.Core.List.{List}
 use Prim.Native.Nat.{ℕ, zero, suc, _+_}
 use lib.ListN.{getD}
 use lib.Ieee.{Float}
-use Rattle.wave.specs.Wave.{sumsOf}
 use Rattle.job.specs.Job.{Laid}
 use Rattle.job.specs.Format.{listed}
 use Rattle.recurrence.specs.State.{State, pointAt}
-use Rattle.recurrence.specs.Step.{Inputs, along, cpAfter, cmBefore, kAtStart, kAtFinish, endsOf, sumsAt, headAt, Place, nowhere, place, atStart, atFinish, between, newIn, newAt}
+use Rattle.recurrence.specs.Step.{Inputs, along, cpAfter, cmBefore, kAtStart, kAtFinish, sumsAt, headAt, Place, nowhere, place, atStart, atFinish, between, newIn, newAt}
 
 -- a field of each entry, also past the end
 pub field-listed : {A B : Type 0} (π : A → B) (n : ℕ) (f g : ℕ → A) (d : A) → ((s : ℕ) → π (f s) ≡ π (g s)) → (s : ℕ) → π (getD (listed n f) s d) ≡ π (getD (listed n g) s d)

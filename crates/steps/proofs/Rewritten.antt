@@ -2,7 +2,7 @@
 use mathlib.Core.Path.{_≡_, refl, sym, ap, _∙_}
 use mathlib.Core.Bool.{true, false}
 use mathlib.Core.List.{List}
-use Prim.Native.Nat.{ℕ, _+_, _≤_, _<_}
+use Prim.Native.Nat.{ℕ, _+_, _≤_}
 use native.Mathlib.Omega.{arith}
 use lib.ListN.{length, drop}
 use lib.Ieee.{Float}
@@ -21,8 +21,8 @@ use Rattle.rows.specs.declared.found.Scan.{Scan}
 use Rattle.rows.specs.Faults.{firstFault, foundFault}
 use Rattle.march.specs.March.{newSection}
 use Rattle.recurrence.specs.Calls.{six}
-use Rattle.steps.specs.Steps.{Ready, SameRest, stops, resultOf, Runs}
-use Rattle.steps.proofs.Taken.{filled-at, filled-rest, long, heads-are, flows-are, scanned, state-taken}
+use Rattle.steps.specs.Steps.{Ready, SameRest, stops, Runs}
+use Rattle.steps.proofs.Taken.{filled-at, filled-rest, heads-are, flows-are, scanned, state-taken}
 use Rattle.steps.proofs.Runs.{step-done, step-stops, steps-more, steps-end}
 
 module _ (job : List ℕ) (n m : ℕ) (r : Rows) (ready : Ready job n r) (a b : List Float)

@@ -9,16 +9,16 @@ use Rattle.job.specs.Job.{Job}
 use Rattle.job.specs.Format.{jobOf}
 use Rattle.recurrence.specs.State.{State}
 use Rattle.recurrence.specs.Step.{advanced}
-use Rattle.recurrence.specs.Scan.{Cause, Fault, none, fault, notFinite, parted, scan}
-use Rattle.recurrence.specs.Run.{Run, Result, ran, Ending, completed, stop, steps}
+use Rattle.recurrence.specs.Scan.{Cause, fault, notFinite, parted, scan}
+use Rattle.recurrence.specs.Run.{Run, Result, ran, completed, stop, steps}
 use Rattle.recurrence.specs.Calls.{Rows, enoughLent, stateIn}
-use Rattle.recurrence.proofs.RowLaws.{Lengths, enough-lengths, lengths-enough}
+use Rattle.recurrence.proofs.RowLaws.{enough-lengths, lengths-enough}
 use Rattle.recurrence.proofs.RunLaws.{steps-on, steps-stop, andThen, steps-join, steps-count}
 use Rattle.rows.specs.declared.found.Scan.{Scan}
 use Rattle.rows.specs.declared.found.Scan.the-variants.{Sound, NotFinite, Parted}
 use Rattle.rows.specs.Faults.{foundFault}
 use Rattle.steps.specs.declared.Ended.{Ended}
-use Rattle.steps.specs.Steps.{Ready, SameRest, stops, endingOf, resultOf, Runs}
+use Rattle.steps.specs.Steps.{SameRest, stops, endingOf, resultOf, Runs}
 
 -- ---- rows that keep their lengths, and what stands past the section count
 

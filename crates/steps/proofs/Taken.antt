@@ -1,31 +1,30 @@
 -- A step over the six rows: what is worked out in the spare rows is scanned, and taken over it is the recurrence's next state. Assumes nothing.
 use mathlib.Core.Path.{_≡_, refl, sym, ap, _∙_}
-use mathlib.Core.Bool.{true}
 use mathlib.Core.List.{List}
-use Prim.Native.Nat.{ℕ, _+_, _*_, _/_, _≤_, _<_}
+use Prim.Native.Nat.{ℕ, _/_, _≤_, _<_}
 use native.Mathlib.Nat.{zero-add}
 use native.Mathlib.Omega.{arith}
-use lib.ListN.{length, getD, drop}
+use lib.ListN.{length, drop}
 use lib.Ieee.{Float}
 use Rattle.fields.specs.Real.{zero64}
 use Rattle.loops.specs.Loops.{fill}
-use Rattle.loops.proofs.Fill.{fill-in, length-fill, drop-fill}
+use Rattle.loops.proofs.Fill.{fill-in, drop-fill}
 use Rattle.wave.specs.declared.HeadFlow.{HeadFlow}
 use Rattle.job.specs.Job.{Job, laid, sections, initialAt, floorAt}
-use Rattle.job.specs.Format.{jobOf, listed, initialTable, initialIn, sectionIn}
+use Rattle.job.specs.Format.{jobOf, initialTable, initialIn, sectionIn}
 use Rattle.job.specs.Questions.{Accepted}
 use Rattle.job.proofs.Listed.{getD-listed}
 use Rattle.job.proofs.Accepted.{initial-length}
 use Rattle.recurrence.specs.State.{Point, State, pointAt, noPoint}
 use Rattle.recurrence.specs.Step.{inputs, located, newAt, updated, newPoint, advanced}
 use Rattle.recurrence.specs.Scan.{scan}
-use Rattle.recurrence.specs.Calls.{Rows, enoughLent, pointIn, stateIn}
+use Rattle.recurrence.specs.Calls.{Rows, pointIn, stateIn}
 use Rattle.recurrence.proofs.Listed.{listed-cong}
 use Rattle.recurrence.proofs.RowLaws.{state-at, Lengths, enough-lengths}
 use Rattle.recurrence.proofs.StepLaws.{advanced-at}
 use Rattle.rows.specs.Rows.{entry, raised, lowered, raisedAt, loweredAt}
 use Rattle.rows.specs.Faults.{floorIn, firstFault}
-use Rattle.rows.proofs.InState.{updated-highest, updated-lowest, scan-is}
+use Rattle.rows.proofs.InState.{scan-is}
 use Rattle.march.specs.March.{held, newSection}
 use Rattle.steps.specs.Steps.{Ready}
 use Rattle.steps.proofs.Alike.{field-listed, new-alike}

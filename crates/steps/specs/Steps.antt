@@ -1,4 +1,4 @@
--- What the inner functions of this crate promise each other. No public call cites these definitions.
+-- What the functions of this crate, and those of `surge` that call them, promise each other. No public call of the product cites these definitions.
 use mathlib.Core.Path.{_≡_}
 use mathlib.Core.Bool.{Bool, true, false}
 use mathlib.Core.List.{List}

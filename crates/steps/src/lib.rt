@@ -1,6 +1,6 @@
 // A run of steps.
 ghost use mathlib.Core.Path.{_≡_};
-ghost use Prim.Native.Nat.{ℕ, _+_, _≤_};
+ghost use Prim.Native.Nat.{_+_, _≤_};
 ghost use Rattle.march.specs.March.{constantSums};
 ghost use Rattle.recurrence.specs.Calls.{six};
 ghost use Rattle.steps.specs.Steps.{Ready, Runs};

@@ -1,23 +1,23 @@
 -- What a call leaves in the six rows, and its answer: refused, begun, or run on. Assumes nothing.
-use mathlib.Core.Path.{_≡_, refl, sym, ap, ap₂, _∙_}
-use mathlib.Core.Bool.{Bool, true, false, cond, _&&_}
+use mathlib.Core.Path.{_≡_, refl, sym, ap, _∙_}
+use mathlib.Core.Bool.{true, false}
 use mathlib.Core.List.{List, _++_, map}
 use Prim.Native.Nat.{ℕ, _+_, _-_, _≤_, _<_}
 use native.Mathlib.Omega.{arith}
-use lib.Dec.{leb, eqb}
+use lib.Dec.{leb}
 use lib.ListN.{length, getD, drop}
 use lib.Ieee.{Float}
 use borrow.Author.Tests.{eq-eqb, ne-eqb, leb-true}
 use Rattle.fields.specs.Real.{zero64}
 use Rattle.loops.specs.Loops.{fill}
 use Rattle.job.specs.Job.{Job, sections, initialAt}
-use Rattle.job.specs.Format.{jobOf, listed}
+use Rattle.job.specs.Format.{jobOf}
 use Rattle.job.specs.Questions.{refusal, Accepted}
 use Rattle.job.proofs.Listed.{getD-listed, length-listed}
-use Rattle.recurrence.specs.State.{Point, State, pointAt, noPoint, startPoint, startState}
+use Rattle.recurrence.specs.State.{Point, pointAt, noPoint, startPoint, startState}
 use Rattle.recurrence.specs.Scan.{acceptable}
 use Rattle.recurrence.specs.Run.{Result, refused, ran, completed, answerOf, ask, started, start, steps, withinLimit, runOn}
-use Rattle.recurrence.specs.Calls.{Rows, enoughLent, pointIn, stateIn, rowOf, rowsOf, rowsAfter, Called, readFirst, called, startResult, startCall, runOnResult, runOnCall, six}
+use Rattle.recurrence.specs.Calls.{Rows, enoughLent, pointIn, stateIn, rowOf, rowsOf, rowsAfter, readFirst, called, startResult, startCall, runOnResult, runOnCall, six}
 use Rattle.recurrence.proofs.Tests.{both}
 use Rattle.recurrence.proofs.RowLaws.{state-at, state-long, row-same, Lengths}
 use Rattle.rows.proofs.InState.{filled-row}
@@ -25,7 +25,7 @@ use Rattle.surge.specs.declared.answer.Answer.{Answer}
 use Rattle.surge.specs.declared.answer.Answer.the-variants.{Refused, Done}
 use Rattle.steps.specs.declared.Ended.{Ended}
 use Rattle.surge.specs.Answers.{paperAnswer, left}
-use Rattle.steps.specs.Steps.{Ready, SameRest, resultOf}
+use Rattle.steps.specs.Steps.{SameRest, resultOf}
 
 -- ---- the questions
 

@@ -1,7 +1,7 @@
 // The start and the run-on, over six lent rows.
 ghost use mathlib.Core.Path.{_≡_};
-ghost use mathlib.Core.Bool.{true, _&&_};
-ghost use Prim.Native.Nat.{ℕ, _+_, _≤_};
+ghost use mathlib.Core.Bool.{_&&_};
+ghost use Prim.Native.Nat.{_+_, _≤_};
 ghost use lib.Dec.{leb};
 ghost use Rattle.job.specs.Format.{jobOf};
 ghost use Rattle.recurrence.specs.State.{State};

@@ -1,9 +1,8 @@
 -- A node's sums, one end at a time: the last end is added to the sums of those before it. Assumes nothing.
-use mathlib.Core.Path.{_≡_, refl, ap₂}
+use mathlib.Core.Path.{_≡_, refl}
 use mathlib.Core.List.{List, [], _∷_, _++_}
 use lib.Ieee.{Float}
 use Rattle.fields.specs.Real.{_⊞_, zero64}
-use Rattle.wave.specs.declared.Sums.{Sums}
 use Rattle.wave.specs.Wave.{sumFrom, sumsOf, noSums, added}
 
 pub sum-last : (x : Float) (ys : List Float) (y : Float) → sumFrom x (ys ++ y ∷ []) ≡ sumFrom x ys ⊞ y

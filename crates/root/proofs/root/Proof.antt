@@ -1,13 +1,9 @@
 -- `root::root` meets its contract: its two tests are question 23's. Assumes nothing.
-use mathlib.Core.Path.{_≡_, sym, _∙_, ap}
-use mathlib.Core.Bool.{true, false, not, _&&_, cond}
-use lib.Ieee.{Float, lt}
-use lib.Ieee.Scale.{finite}
+use mathlib.Core.Path.{sym, _∙_}
 use borrow.Author.Needs.{needs}
 use borrow.Author.Tests.{not-true, not-false}
-use Rattle.fields.specs.Real.{zero64}
-use Rattle.root.specs.Root.{rootable, rootOf}
-use Rattle.root.specs.Answer.{refused, value, rootAnswer}
+use Rattle.root.specs.Root.{rootable}
+use Rattle.root.specs.Answer.{rootAnswer}
 use Rattle.root.proofs.root.Statement.{statement}
 use Rattle.root.proofs.root.Tie as tie
 

@@ -1,10 +1,10 @@
 -- `root::root_bits` meets its contract: the significand at full width has its root's digits, and half the power is the exponent's field. Assumes nothing.
-use mathlib.Core.Path.{_≡_, refl, sym, ap, _∙_, subst}
+use mathlib.Core.Path.{_≡_, sym, ap, _∙_}
 use Prim.Native.Nat.{ℕ, _+_, _-_, _*_, _/_, _%_, _^_, _≤_, _<_}
 use native.Mathlib.Nat.{mul-le-mul-left}
 use native.Mathlib.Omega.{arith}
 use borrow.Author.Needs.{needs}
-use Rattle.root.specs.Whole.{IsWholeRoot, wholeRoot}
+use Rattle.root.specs.Whole.{wholeRoot}
 use Rattle.root.proofs.WholeLaws.{whole-root-is, one-root, root-by-rest, root-below}
 use Rattle.root.specs.Root.{cutPlaces}
 use Rattle.root.proofs.Powers.{wide-places, wide-cut}

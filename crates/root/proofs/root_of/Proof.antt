@@ -1,12 +1,11 @@
 -- `root::root_of` meets its contract: each return is a law of `specs/AnswerLaws.antt`, taken from the argument's pattern to the argument. Assumes nothing.
 use mathlib.Core.Path.{_≡_, refl, sym, ap, _∙_, subst}
-use Prim.Native.Nat.{ℕ, _<_, _≤_, _*_, _^_}
-use native.Mathlib.Nat.{lt-of-not-le}
+use Prim.Native.Nat.{ℕ, _<_}
 use native.Mathlib.Omega.{arith}
-use mathlib.Core.Bool.{Bool, not}
+use mathlib.Core.Bool.{not}
 use borrow.Author.Needs.{needs}
 use lib.Dec.{T}
-use lib.Ieee.{Float, binary64, fits, ofBits, toBits, nanBits}
+use lib.Ieee.{binary64, fits, ofBits, toBits, nanBits}
 use lib.Ieee.Bits.{ofBits-toBits}
 use Rattle.root.specs.Root.{rootOf}
 use Rattle.root.proofs.AnswerLaws.{nan-answer, no-nan, zero-answer, minus-zero-answer, high-answer, root-no-nan, value-answer}

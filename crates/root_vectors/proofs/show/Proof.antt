@@ -1,8 +1,8 @@
 -- `root_vectors::show` meets its contract: the pattern is no NaN's, and no root is a NaN. Assumes nothing.
-use mathlib.Core.Path.{_≡_, sym, ap, _∙_, subst}
-use mathlib.Core.Bool.{Bool, false, not}
+use mathlib.Core.Path.{sym, ap, _∙_, subst}
+use mathlib.Core.Bool.{Bool, not}
 use lib.Dec.{T}
-use lib.Ieee.{binary64, nanBits}
+use lib.Ieee.{binary64}
 use lib.Ieee.Bits.{nanBits-above, ofBits-fits}
 use borrow.Author.Needs.{needs}
 use borrow.Author.Tests.{le-ltb}

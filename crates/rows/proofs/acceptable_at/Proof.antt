@@ -1,5 +1,5 @@
 -- `rows::acceptable_at` meets its contract, at each return by the tests that led there. Assumes nothing.
-use mathlib.Core.Path.{_≡_, refl, sym, ap, _∙_}
+use mathlib.Core.Path.{_≡_, refl, sym, _∙_}
 use mathlib.Core.Bool.{Bool, true, false, _&&_, not}
 use lib.Ieee.{Float, lt}
 use lib.Ieee.Scale.{finite}

@@ -1,9 +1,8 @@
 -- `rows::scan` meets its contract: where the count is 0 every section is sound, so there is no first fault. Assumes nothing.
 use mathlib.Core.Path.{sym, _∙_}
-use denote.Ref.{now}
 use borrow.Author.Needs.{needs}
 use borrow.Author.Tests.{eq-eqb}
-use Rattle.rows.specs.Faults.{faultAt, soundAt, firstFault, foundFault}
+use Rattle.rows.specs.Faults.{soundAt, firstFault, foundFault}
 use Rattle.rows.proofs.Sound.{none-of-sound}
 use Rattle.rows.proofs.scan.Statement.{statement}
 use Rattle.rows.proofs.scan.Tie as tie

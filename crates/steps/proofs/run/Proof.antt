@@ -1,9 +1,8 @@
 -- `steps::run` meets its contract: before each turn the rows are underway; a stop, the last single step or the end of the loop ends the run. Assumes nothing.
-use mathlib.Core.Path.{_≡_, sym, _∙_}
-use Prim.Native.Nat.{ℕ, _+_, _-_, _≤_, _<_}
+use mathlib.Core.Path.{sym, _∙_}
+use Prim.Native.Nat.{_-_}
 use native.Mathlib.Omega.{arith}
 use borrow.Author.Needs.{needs}
-use Rattle.recurrence.specs.Calls.{Rows}
 use Rattle.recurrence.specs.Calls.{six}
 use Rattle.steps.proofs.Runs.{SameSizes, enough-kept, Underway, way-none, way-next, way-stop, way-last, way-done}
 use Rattle.steps.proofs.run.Statement.{statement}

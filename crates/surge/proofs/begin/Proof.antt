@@ -1,5 +1,4 @@
 -- `surge::begin` meets its contract: the initial state in four rows, +0 in two. Assumes nothing.
-use native.Mathlib.Omega.{arith}
 use borrow.Author.Needs.{needs}
 use Rattle.recurrence.specs.Calls.{Rows, six}
 use Rattle.recurrence.proofs.RowLaws.{Lengths, enough-lengths}

@@ -1,6 +1,4 @@
 -- `surge::carry_on` meets its contract: the rows as the run left them, and the spare rows cleared. Assumes nothing.
-use mathlib.Core.Path.{_≡_, _∙_}
-use native.Mathlib.Omega.{arith}
 use borrow.Author.Needs.{needs}
 use Rattle.recurrence.specs.Calls.{Rows, six}
 use Rattle.recurrence.proofs.RowLaws.{Lengths, enough-lengths}

@@ -1,5 +1,5 @@
 -- `march::ends::add_ends` meets its contract: the first store leaves the other node's sum as it was. Assumes nothing.
-use mathlib.Core.Path.{_≡_, sym}
+use mathlib.Core.Path.{sym}
 use lib.Ieee.{nan}
 use lib.Seq.{getD-set-other}
 use borrow.Author.Needs.{needs}

@@ -1,5 +1,5 @@
 -- `march::ends::k_at_finish` meets its contract: it reads the last reach of the pipe and the section above its last. Assumes nothing.
-use mathlib.Core.Path.{_≡_, _∙_}
+use mathlib.Core.Path.{_∙_}
 use Prim.Native.Nat.{_+_, _-_, _<_}
 use native.Mathlib.Numerals.{sub-one}
 use native.Mathlib.Omega.{arith}

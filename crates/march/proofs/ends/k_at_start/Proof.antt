@@ -1,5 +1,5 @@
 -- `march::ends::k_at_start` meets its contract: it reads section 1 and the first reach of the pipe. Assumes nothing.
-use mathlib.Core.Path.{_≡_, _∙_}
+use mathlib.Core.Path.{_∙_}
 use Prim.Native.Nat.{_+_, _<_}
 use native.Mathlib.Nat.{add-zero}
 use native.Mathlib.Omega.{arith}

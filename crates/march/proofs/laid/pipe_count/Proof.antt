@@ -1,5 +1,4 @@
 -- `march::laid::pipe_count` meets its contract. Assumes nothing.
-use native.Mathlib.Omega.{arith}
 use borrow.Author.Needs.{needs}
 use Rattle.march.proofs.Accept.{pairs-accepted, few-pipes}
 use Rattle.march.proofs.laid.pipe_count.Statement.{statement}

@@ -1,5 +1,5 @@
 -- `march::nodes::heads_at` meets its contract: the rows of sums have B and T of each node. Assumes nothing.
-use mathlib.Core.Path.{_≡_, _∙_}
+use mathlib.Core.Path.{_∙_}
 use native.Mathlib.Omega.{arith}
 use borrow.Author.Needs.{needs}
 use Rattle.march.specs.March.{nodeHeads}

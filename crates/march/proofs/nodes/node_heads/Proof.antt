@@ -1,13 +1,13 @@
 -- `march::nodes::node_heads` meets its contract: the row is filled up to node y, whose schedule begins at the place carried. Assumes nothing.
-use mathlib.Core.Path.{_≡_, refl, sym, ap, _∙_}
-use Prim.Native.Nat.{ℕ, _-_, _*_, _<_, _≤_}
+use mathlib.Core.Path.{_≡_, refl, ap, _∙_}
+use Prim.Native.Nat.{_-_, _*_, _<_, _≤_}
 use native.Mathlib.Omega.{arith}
 use lib.ListN.{length, replicate}
 use borrow.Author.Needs.{needs}
 use Rattle.fields.specs.Real.{zero64}
 use Rattle.loops.proofs.Fill.{Upto, upto-none, upto-step, upto-done}
 use Rattle.job.specs.Job.{nodeAt, scheduled}
-use Rattle.job.specs.Format.{jobOf, nodeTable, nodeCount, placeOf}
+use Rattle.job.specs.Format.{jobOf, placeOf}
 use Rattle.job.proofs.Tables.{table-short}
 use Rattle.job.proofs.Accepted.{tables-right}
 use Rattle.recurrence.specs.Step.{nodeNow}

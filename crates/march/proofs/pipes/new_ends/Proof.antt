@@ -1,5 +1,5 @@
 -- `march::pipes::new_ends` meets its contract: each end takes its K and the head of its node. Assumes nothing.
-use mathlib.Core.Path.{_≡_, _∙_}
+use mathlib.Core.Path.{_∙_}
 use native.Mathlib.Omega.{arith}
 use borrow.Author.Needs.{needs}
 use Rattle.march.specs.March.{laidOf}

@@ -1,14 +1,14 @@
 -- `march::pipes::work_out` meets its contract: the new rows are filled up to the first section of pipe p. Assumes nothing.
 use mathlib.Core.Path.{_≡_, refl, sym, ap, _∙_}
-use Prim.Native.Nat.{ℕ, _-_, _<_, _≤_}
+use Prim.Native.Nat.{_-_, _<_, _≤_}
 use native.Mathlib.Omega.{arith}
 use lib.ListN.{length}
 use borrow.Author.Needs.{needs}
 use Rattle.loops.specs.Loops.{fill}
-use Rattle.loops.proofs.Fill.{fill-none, length-fill}
+use Rattle.loops.proofs.Fill.{fill-none}
 use Rattle.job.specs.Job.{Laid, sections}
 use Rattle.job.specs.Format.{jobOf, pipeTable, pipeCount}
-use Rattle.march.specs.March.{laidIn, laidOf, pipeOf, Walked, sectionsTo, newSection}
+use Rattle.march.specs.March.{laidOf, pipeOf, Walked, sectionsTo, newSection}
 use Rattle.march.proofs.Order.{sections-count}
 use Rattle.march.proofs.Walk.{walk-none, walk-more, walk-laid, walk-low, Low}
 use Rattle.march.proofs.WholePipe.{pipe-more}

@@ -1,5 +1,5 @@
 -- `march::pipes::write_inner` meets its contract: the rows are cut to the pipe, swept, and put back. Assumes nothing.
-use mathlib.Core.Path.{_≡_, refl, ap}
+use mathlib.Core.Path.{ap}
 use lib.ListN.{length}
 use native.Mathlib.Omega.{arith}
 use borrow.Author.Needs.{needs}

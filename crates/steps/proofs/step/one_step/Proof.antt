@@ -1,5 +1,5 @@
 -- `steps::step::one_step` meets its contract: a step worked out in the spare rows, and taken over where its scan finds no fault. Assumes nothing.
-use mathlib.Core.Path.{_≡_, sym, _∙_}
+use mathlib.Core.Path.{sym, _∙_}
 use native.Mathlib.Omega.{arith}
 use borrow.Author.Needs.{needs}
 use Rattle.recurrence.specs.Calls.{Rows}

@@ -1,5 +1,5 @@
 -- `steps::step::two_steps` meets its contract: a step from the rows into the spare rows, and one back, each scanned. Assumes nothing.
-use mathlib.Core.Path.{_≡_, sym, _∙_}
+use mathlib.Core.Path.{sym, _∙_}
 use native.Mathlib.Omega.{arith}
 use borrow.Author.Needs.{needs}
 use Rattle.recurrence.specs.Calls.{Rows}

@@ -1,5 +1,5 @@
 -- `steps::step::work_out` meets its contract: the new heads and flows are worked out, and scanned with the floors of table 4. Assumes nothing.
-use mathlib.Core.Path.{_≡_, _∙_}
+use mathlib.Core.Path.{_∙_}
 use native.Mathlib.Omega.{arith}
 use borrow.Author.Needs.{needs}
 use Rattle.job.proofs.Accepted.{initial-length, initial-fits}

@@ -1,10 +1,9 @@
 -- `surge::state::acceptable` meets its contract: the floors are those of table 4. Assumes nothing.
-use mathlib.Core.Path.{_≡_, sym, ap, _∙_}
+use mathlib.Core.Path.{_∙_}
 use mathlib.Core.List.{[]}
 use native.Mathlib.Omega.{arith}
 use Rattle.recurrence.specs.Calls.{six}
 use borrow.Author.Needs.{needs}
-use Rattle.job.specs.Job.{sections}
 use Rattle.job.specs.Format.{jobOf}
 use Rattle.job.proofs.Accepted.{initial-length, initial-fits}
 use Rattle.rows.proofs.InState.{acceptable-is}

@@ -1,6 +1,5 @@
 -- `surge::state::write_initial` meets its contract: a turn stores one entry of each row. Assumes nothing.
-use mathlib.Core.Path.{_≡_}
-use Prim.Native.Nat.{ℕ, _-_}
+use Prim.Native.Nat.{_-_}
 use native.Mathlib.Omega.{arith}
 use borrow.Author.Needs.{needs}
 use Rattle.loops.proofs.Fill.{Upto, upto-none, upto-step, upto-done}

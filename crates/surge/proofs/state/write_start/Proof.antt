@@ -1,13 +1,12 @@
 -- `surge::state::write_start` meets its contract. Assumes nothing.
-use mathlib.Core.Path.{_≡_, refl, _∙_}
+use mathlib.Core.Path.{_≡_, _∙_}
 use mathlib.Core.Bool.{true}
-use mathlib.Core.List.{List}
-use Prim.Native.Nat.{ℕ, _*_, _≤_}
+use Prim.Native.Nat.{_*_, _≤_}
 use native.Mathlib.Omega.{arith}
 use lib.ListN.{length}
 use borrow.Author.Needs.{needs}
 use Rattle.job.specs.Job.{initialAt}
-use Rattle.job.specs.Format.{jobOf, initialTable}
+use Rattle.job.specs.Format.{jobOf}
 use Rattle.job.specs.Questions.{initialFits}
 use Rattle.job.proofs.Accepted.{initial-length, initial-fits}
 use Rattle.march.proofs.Accept.{pairs-accepted}
