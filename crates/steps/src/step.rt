@@ -8,7 +8,7 @@ ghost use Rattle.job.specs.Format.{jobOf, initialTable};
 ghost use Rattle.rows.specs.Rows.{entry};
 ghost use Rattle.rows.specs.Faults.{foundFault, firstFault};
 ghost use Rattle.march.specs.March.{Lent, constantSums, newSection};
-ghost use Rattle.recurrence.specs.Calls.{six};
+ghost use Rattle.recurrence.specs.Slices.{lent, before, after};
 ghost use Rattle.steps.specs.Steps as inner;
 use super::Ended;
 use rows::Scan;
@@ -68,8 +68,11 @@ pub fn one_step(
     spare_heads: &mut [f64],
     spare_flows: &mut [f64],
 ) -> Ended
-    requires { ⌜ (inner.Ready (now job) n (six (now heads) (now flows) (now highest) (now lowest) (now «spare_heads») (now «spare_flows»))) × (done + 1 ≤ 1000000) × (now t ≡ constantSums (now job)) ⌝ }
-    ensures { λ r. ⌜ inner.Runs (now (job .entry)) n done 1 (six (now (heads .entry)) (now (flows .entry)) (now (highest .entry)) (now (lowest .entry)) (now («spare_heads» .entry)) (now («spare_flows» .entry))) (six (now (heads .exit)) (now (flows .exit)) (now (highest .exit)) (now (lowest .exit)) (now («spare_heads» .exit)) (now («spare_flows» .exit))) r ⌝ }
+    requires { ⌜ (inner.Ready (now job) n (lent heads flows highest lowest «spare_heads» «spare_flows»))
+        × (done + 1 ≤ 1000000) × (now t ≡ constantSums (now job)) ⌝ }
+    ensures { λ r. ⌜ inner.Runs (now (job .entry)) done 1
+        (before heads flows highest lowest «spare_heads» «spare_flows»)
+        (after heads flows highest lowest «spare_heads» «spare_flows») r ⌝ }
 {
     let step = (done + 1) as usize;
     let found = work_out(job, n, step, t, heads, flows, spare_heads, spare_flows);
@@ -98,8 +101,11 @@ pub fn two_steps(
     spare_heads: &mut [f64],
     spare_flows: &mut [f64],
 ) -> Ended
-    requires { ⌜ (inner.Ready (now job) n (six (now heads) (now flows) (now highest) (now lowest) (now «spare_heads») (now «spare_flows»))) × (done + 2 ≤ 1000000) × (now t ≡ constantSums (now job)) ⌝ }
-    ensures { λ r. ⌜ inner.Runs (now (job .entry)) n done 2 (six (now (heads .entry)) (now (flows .entry)) (now (highest .entry)) (now (lowest .entry)) (now («spare_heads» .entry)) (now («spare_flows» .entry))) (six (now (heads .exit)) (now (flows .exit)) (now (highest .exit)) (now (lowest .exit)) (now («spare_heads» .exit)) (now («spare_flows» .exit))) r ⌝ }
+    requires { ⌜ (inner.Ready (now job) n (lent heads flows highest lowest «spare_heads» «spare_flows»))
+        × (done + 2 ≤ 1000000) × (now t ≡ constantSums (now job)) ⌝ }
+    ensures { λ r. ⌜ inner.Runs (now (job .entry)) done 2
+        (before heads flows highest lowest «spare_heads» «spare_flows»)
+        (after heads flows highest lowest «spare_heads» «spare_flows») r ⌝ }
 {
     let step = (done + 1) as usize;
     let first = work_out(job, n, step, t, heads, flows, spare_heads, spare_flows);

@@ -10,7 +10,7 @@ ghost use Rattle.job.specs.Job.{sections, initialAt};
 ghost use Rattle.job.specs.Format.{jobOf, initialOf};
 ghost use Rattle.job.specs.Questions.{Accepted, initialFits};
 ghost use Rattle.recurrence.specs.Scan.{acceptable};
-ghost use Rattle.recurrence.specs.Calls.{stateIn, six};
+ghost use Rattle.recurrence.specs.Calls.{stateIn, gathered};
 
 // The initial heads and flows of table 4 into the rows of heads and flows, and the heads into both envelopes.
 fn write_initial(
@@ -81,7 +81,8 @@ pub fn acceptable(
 ) -> bool
     requires { ⌜ (Accepted (now job)) × (n ≡ sections (jobOf (now job))) ⌝ }
     requires { ⌜ (n ≤ length (now heads)) × (n ≤ length (now flows)) × (n ≤ length (now highest)) × (n ≤ length (now lowest)) ⌝ }
-    ensures { λ r. ⌜ r ≡ acceptable (jobOf (now (job .entry))) (stateIn n (six (now (heads .entry)) (now (flows .entry)) (now (highest .entry)) (now (lowest .entry)) [] [])) ⌝ }
+    ensures { λ r. ⌜ r ≡ acceptable (jobOf (now (job .entry))) (stateIn (jobOf (now (job .entry)))
+        (gathered (now (heads .entry)) (now (flows .entry)) (now (highest .entry)) (now (lowest .entry)) [] [])) ⌝ }
 {
     let initial = job::pairs::table(job, 3);
     rows::acceptable(heads, flows, highest, lowest, initial, n)

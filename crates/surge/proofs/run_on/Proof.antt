@@ -9,15 +9,16 @@ use Rattle.job.specs.Answer.{paperAnswer}
 use Rattle.job.proofs.FirstNo.{is-yes, is-no}
 use Rattle.job.proofs.AnswerLaws.{refused-is, accepted-is}
 use Rattle.recurrence.specs.Scan.{acceptable}
-use Rattle.recurrence.specs.Calls.{Rows, enoughLent, pointIn, stateIn, six}
-use Rattle.recurrence.proofs.RowLaws.{enough-lengths}
+use Rattle.recurrence.specs.Calls.{heads, flows, highest, lowest, Rows, every, enoughLent, pointIn, stateIn}
+use Rattle.recurrence.specs.Slices.{lent}
+use Rattle.recurrence.proofs.RowLaws.{enough-each}
 use Rattle.surge.proofs.Left.{run-not-read, run-short, run-beyond, run-unacceptable, run-ran, limit-kept}
 use Rattle.surge.proofs.run_on.Statement.{statement}
 use Rattle.surge.proofs.run_on.Tie as tie
 
 -- the rows as they are lent
-abbrev lent : tie.Start → Rows
-lent c = six (c .args .heads .now) (c .args .flows .now) (c .args .highest .now) (c .args .lowest .now) (c .args .spare-heads .now) (c .args .spare-flows .now)
+abbrev rows : tie.Start → Rows
+rows c = lent (c .args .heads) (c .args .flows) (c .args .highest) (c .args .lowest) (c .args .spare-heads) (c .args .spare-flows)
 
 -- what `read` tells of an accepted job, and question 20
 told : (c : tie.After-read3) → (Accepted (c .before .before .before .before .before .before .before .before .before .before .args .job .now)) × (c .read3 .given .0 .0 ≡ sections (jobOf (c .before .before .before .before .before .before .before .before .before .before .args .job .now)))
@@ -25,46 +26,46 @@ told c =
     let t = accepted-is (c .before .before .before .before .before .before .before .before .before .before .args .job .now) _ _ (ap paperAnswer (sym (c .read3 .given .1)) ∙ c .before .before .read .ensures) in
     (t .0, t .1)
 
-lent-enough : (c : tie.After-enough) → c .enough .result ≡ enoughLent (sections (jobOf (c .before .before .before .before .before .before .before .before .before .before .before .before .args .job .now))) (lent (c .before .before .before .before .before .before .before .before .before .before .before .before))
-unfolding enoughLent
+lent-enough : (c : tie.After-enough) → c .enough .result ≡ enoughLent (jobOf (c .before .before .before .before .before .before .before .before .before .before .before .before .args .job .now)) (rows (c .before .before .before .before .before .before .before .before .before .before .before .before))
+unfolding enoughLent every
 lent-enough c = c .enough .ensures ∙ rw (told (c .before .before) .1)
 
 -- question 20 has a yes, and question 22 is asked of what the rows hold
-is-enough : (c : tie.After-acceptable) → enoughLent (sections (jobOf (c .before .before .before .before .before .before .before .before .before .before .before .before .before .before .before .before .before .before .before .args .job .now))) (lent (c .before .before .before .before .before .before .before .before .before .before .before .before .before .before .before .before .before .before .before)) ≡ true
+is-enough : (c : tie.After-acceptable) → enoughLent (jobOf (c .before .before .before .before .before .before .before .before .before .before .before .before .before .before .before .before .before .before .before .args .job .now)) (rows (c .before .before .before .before .before .before .before .before .before .before .before .before .before .before .before .before .before .before .before)) ≡ true
 is-enough c = is-yes (lent-enough (c .before .before .before .before .before .before .before)) (c .before .before .before .before .before .before .if1 .left)
 
-acceptable-is : (c : tie.After-acceptable) → c .acceptable .result ≡ acceptable (jobOf (c .before .before .before .before .before .before .before .before .before .before .before .before .before .before .before .before .before .before .before .args .job .now)) (stateIn (sections (jobOf (c .before .before .before .before .before .before .before .before .before .before .before .before .before .before .before .before .before .before .before .args .job .now))) (lent (c .before .before .before .before .before .before .before .before .before .before .before .before .before .before .before .before .before .before .before)))
+acceptable-is : (c : tie.After-acceptable) → c .acceptable .result ≡ acceptable (jobOf (c .before .before .before .before .before .before .before .before .before .before .before .before .before .before .before .before .before .before .before .args .job .now)) (stateIn (jobOf (c .before .before .before .before .before .before .before .before .before .before .before .before .before .before .before .before .before .before .before .args .job .now)) (rows (c .before .before .before .before .before .before .before .before .before .before .before .before .before .before .before .before .before .before .before)))
 unfolding stateIn pointIn
-acceptable-is c = c .acceptable .ensures ∙ rw (told (c .before .before .before .before .before .before .before .before .before) .1)
+acceptable-is c = c .acceptable .ensures
 
 returns : tie.Need-returns
-returns c = run-short _ (lent (c .before .before .before .before .before .before .before .before .before .before .before .before .before)) (told (c .before .before .before) .0) _ _ (is-no (lent-enough (c .before)) (c .if1 .taken))
+returns c = run-short _ _ (told (c .before .before .before) .0) _ _ (is-no (lent-enough (c .before)) (c .if1 .taken))
 
 acceptable-requires : tie.Need-acceptable-requires
 acceptable-requires c κs =
     let t = told (c .before .before .before .before .before .before .before .before) in
-    let l = enough-lengths _ (lent (c .before .before .before .before .before .before .before .before .before .before .before .before .before .before .before .before .before .before)) (is-yes (lent-enough (c .before .before .before .before .before .before)) (c .before .before .before .before .before .if1 .left)) in
-    (t, rw (t .1) (l .heads, l .flows, l .highest, l .lowest))
+    let l = enough-each _ _ (is-yes (lent-enough (c .before .before .before .before .before .before)) (c .before .before .before .before .before .if1 .left)) in
+    (t, rw (t .1) (l heads, l flows, l highest, l lowest))
 
 returns-2 : tie.Need-returns-2
 returns-2 c =
     let a = c .before in
-    run-beyond _ (lent (c .before .before .before .before .before .before .before .before .before .before .before .before .before .before .before .before .before .before .before .before)) (told (c .before .before .before .before .before .before .before .before .before .before) .0) _ _ (is-enough a) (is-no (c .before .before .before .before .before .before .within-limit .ensures) (c .if2 .taken))
+    run-beyond _ _ (told (c .before .before .before .before .before .before .before .before .before .before) .0) _ _ (is-enough a) (is-no (c .before .before .before .before .before .before .within-limit .ensures) (c .if2 .taken))
 
 returns-3 : tie.Need-returns-3
 returns-3 c =
     let a = c .before .before in
-    run-unacceptable _ (lent (c .before .before .before .before .before .before .before .before .before .before .before .before .before .before .before .before .before .before .before .before .before)) (told (c .before .before .before .before .before .before .before .before .before .before .before) .0) _ _ (is-enough a) (is-yes (c .before .before .before .before .before .before .before .within-limit .ensures) (c .before .if2 .left))
+    run-unacceptable _ _ (told (c .before .before .before .before .before .before .before .before .before .before .before) .0) _ _ (is-enough a) (is-yes (c .before .before .before .before .before .before .before .within-limit .ensures) (c .before .if2 .left))
     (is-no (acceptable-is a) (c .if3 .taken))
 
 carry-on-requires : tie.Need-carry-on-requires
 carry-on-requires c κs =
     let t = told (c .before .before .before .before .before .before .before .before .before .before .before .before .before .before .before .before .before) in
-    (record { accepted = t .0; count = t .1; enough = rw (t .1) (is-enough (c .before .before .before .before .before .before .before .before)) }, limit-kept _ _ (is-yes (c .before .before .before .before .before .before .before .before .before .before .before .before .before .within-limit .ensures) (c .before .before .before .before .before .before .before .if2 .left)))
+    (record { accepted = t .0; count = t .1; enough = enough-each _ _ (is-enough (c .before .before .before .before .before .before .before .before)) }, limit-kept _ _ (is-yes (c .before .before .before .before .before .before .before .before .before .before .before .before .before .within-limit .ensures) (c .before .before .before .before .before .before .before .if2 .left)))
 
 returns-4 : tie.Need-returns-4
 returns-4 c =
-    run-not-read _ (lent (c .before .before .before .before .before .before .before .before .before .before .before)) _ _ _ (refused-is (c .before .before .before .before .before .before .before .before .before .before .before .args .job .now) _ (ap paperAnswer (sym (c .before .read2 .given .1)) ∙ c .before .before .before .read .ensures))
+    run-not-read _ _ _ _ _ (refused-is (c .before .before .before .before .before .before .before .before .before .before .before .args .job .now) _ (ap paperAnswer (sym (c .before .read2 .given .1)) ∙ c .before .before .before .read .ensures))
 
 returns-5 : tie.Need-returns-5
 returns-5 c =
@@ -72,7 +73,7 @@ returns-5 c =
     let t = told (c .before .before .before .before .before .before .before .before .before .before .before .before .before .before .before .before .before .before .before .before .before .before .before .before .before .before .before .before .before .before) in
     let limit = is-yes (c .before .before .before .before .before .before .before .before .before .before .before .before .before .before .before .before .before .before .before .before .before .before .before .before .before .before .within-limit .ensures) (c .before .before .before .before .before .before .before .before .before .before .before .before .before .before .before .before .before .before .before .before .if2 .left) in
     let held = is-yes (acceptable-is a) (c .before .before .before .before .before .before .before .before .before .before .before .before .before .before .before .before .before .before .before .if3 .left) in
-    c .before .before .before .before .before .before .before .before .before .before .before .before .carry-on .ensures ∙ rw (t .1) (sym (run-ran _ (lent (c .before .before .before .before .before .before .before .before .before .before .before .before .before .before .before .before .before .before .before .before .before .before .before .before .before .before .before .before .before .before .before .before .before .before .before .before .before .before .before .before)) (t .0) _ _ (is-enough a) limit held))
+    c .before .before .before .before .before .before .before .before .before .before .before .before .carry-on .ensures ∙ sym (run-ran _ _ (t .0) _ _ (is-enough a) limit held)
 
 pub run-on-spec : {M : Type 1} → statement M
 run-on-spec =
