@@ -1,61 +1,85 @@
 -- The lent rows, each by its name: question 20, what they hold, and what a call leaves in them. Assumes nothing.
--- Each, each, tuple   a fact of every row;  enough-each   question 20
+-- Each, each, tuple   a fact of every row;  enough-each, each-enough   question 20
 -- state-at, holds-point, holds-state, state-held   the state in the rows
 -- rows-hold, row-left   the rows that a call leaves;  take-filled   a row that a loop fills
 use mathlib.Core.Path.{_≡_, refl, sym, ap, ap₂, _∙_}
 use mathlib.Core.Bool.{Bool, true, _&&_, true≢false}
-use mathlib.Core.List.{List, _++_, map}
+use mathlib.Core.List.{List, [], _∷_, _++_, foldr, map}
 use Prim.Native.Nat.{ℕ, _≤_, _<_}
 use native.Mathlib.Nat.{zero-add}
 use native.Mathlib.Omega.{arith}
+use lib.Dec.{leb}
 use lib.ListN.{length, getD, take, drop, replicate, take-append-drop, length-map, length-replicate, getD-replicate, List·getD-map}
 use lib.Seq.{ext-getD, getD-take, length-take-le, take-at}
 use lib.Ieee.{Float}
-use borrow.Author.Tests.{leb-true}
+use borrow.Author.Tests.{leb-true, le-leb}
 use Rattle.fields.specs.Real.{zero64}
 use Rattle.loops.specs.Loops.{fill}
 use Rattle.loops.proofs.Fill.{length-fill, fill-in}
 use Rattle.job.specs.Job.{Job, sections}
 use Rattle.job.specs.Format.{listed}
 use Rattle.recurrence.specs.State.{Point, State, noPoint, pointAt}
-use Rattle.recurrence.specs.Calls.{Row, heads, flows, highest, lowest, spareHeads, spareFlows, Rows, every, size, enoughLent, pointIn, stateIn, holds, rowsOf}
-use Rattle.recurrence.specs.Slices.{Enough}
+use Rattle.recurrence.specs.Calls.{Row, heads, flows, highest, lowest, spareHeads, spareFlows, allRows, Rows, inUse, enoughLent, pointIn, stateIn, holds, rowsOf}
 use Rattle.recurrence.specs.Lent.{Holds}
 use Rattle.recurrence.proofs.Tests.{both}
 use Rattle.recurrence.proofs.Listed.{length-listed, getD-listed, map-listed}
 use Rattle.recurrence.proofs.Runs.{Sized}
 
--- a fact of every row, as a tuple, which `search` and `omega` look into, and by the row's name
-abbrev pub Each : (Row → Type 0) → Type 0
-Each P = P heads × P flows × P highest × P lowest × P spareHeads × P spareFlows
+-- a fact of every row, by the row's name, from one for each in their order
+pub each : (P : Row → Type 0) → P heads → P flows → P highest → P lowest → P spareHeads → P spareFlows → (x : Row) → P x
+each P h q u l a b heads = h
+each P h q u l a b flows = q
+each P h q u l a b highest = u
+each P h q u l a b lowest = l
+each P h q u l a b spareHeads = a
+each P h q u l a b spareFlows = b
 
-pub each : (P : Row → Type 0) → Each P → (x : Row) → P x
-each P t heads = t .0
-each P t flows = t .1
-each P t highest = t .2
-each P t lowest = t .3
-each P t spareHeads = t .4
-each P t spareFlows = t .5
+-- a fact of each of some rows, and of every row, as a tuple, which `search` and `omega` look into
+abbrev EachOf : (Row → Type 0) → List Row → Type 0
+EachOf P xs = foldr (λ x (T : Type 0). P x × T) Unit xs
+
+abbrev pub Each : (Row → Type 0) → Type 0
+Each P = EachOf P allRows
+
+pub untupled : (P : Row → Type 0) → Each P → (x : Row) → P x
+untupled P t = each P (t .0) (t .1 .0) (t .1 .1 .0) (t .1 .1 .1 .0) (t .1 .1 .1 .1 .0) (t .1 .1 .1 .1 .1 .0)
+
+tuple-of : (P : Row → Type 0) → ((x : Row) → P x) → (xs : List Row) → EachOf P xs
+tuple-of P f [] = tt
+tuple-of P f (x ∷ xs) = (f x, tuple-of P f xs)
 
 pub tuple : (P : Row → Type 0) → ((x : Row) → P x) → Each P
-tuple P f = (f heads, f flows, f highest, f lowest, f spareHeads, f spareFlows)
+tuple P f = tuple-of P f allRows
 
 -- ---- question 20
 
-every-each : (test : Row → Bool) → every test ≡ true → (x : Row) → test x ≡ true
-unfolding every
-every-each test h =
-    let f = both (test heads && test flows && test highest && test lowest && test spareHeads) (test spareFlows) h in
-    let e = both (test heads && test flows && test highest && test lowest) (test spareHeads) (f .0) in
-    let d = both (test heads && test flows && test highest) (test lowest) (e .0) in
-    let c = both (test heads && test flows) (test highest) (d .0) in
-    let b = both (test heads) (test flows) (c .0) in
-    each _ (b .0, b .1, c .1, d .1, e .1, f .1)
+module _ (test : Row → Bool) where
+  abbrev pass : List Row → Bool
+  pass xs = foldr (λ x rest. test x && rest) true xs
+
+  pass-each : (xs : List Row) → pass xs ≡ true → EachOf (λ x. test x ≡ true) xs
+  pass-each [] h = tt
+  pass-each (x ∷ xs) h = let b = both (test x) (pass xs) h in (b .0, pass-each xs (b .1))
+
+  each-pass : ((x : Row) → test x ≡ true) → (xs : List Row) → pass xs ≡ true
+  each-pass h [] = refl
+  each-pass h (x ∷ xs) = rw (h x) (each-pass h xs)
+
+-- every row has the entries that the job uses
+abbrev pub Enough : Job → Rows → Type 0
+Enough j r = (x : Row) → inUse j x ≤ length (r x)
 
 module _ (j : Job) (r : Rows) where
+  abbrev holds-use : Row → Bool
+  holds-use x = leb (inUse j x) (length (r x))
+
   pub enough-each : enoughLent j r ≡ true → Enough j r
   unfolding enoughLent
-  enough-each h x = leb-true _ _ (every-each (λ y. _) h x)
+  enough-each h x = leb-true _ _ (untupled (λ y. holds-use y ≡ true) (pass-each holds-use allRows h) x)
+
+  pub each-enough : Enough j r → enoughLent j r ≡ true
+  unfolding enoughLent
+  each-enough h = each-pass holds-use (λ x. le-leb _ _ (h x)) allRows
 
   -- ---- the state in the rows
 
@@ -95,32 +119,31 @@ pub state-held : (j : Job) (r : Rows) → Enough j r → Holds j r (stateIn j r)
 unfolding holds stateIn pointIn
 state-held j r long =
     let n = sections j in
-    each _ (
-      λ _. take-listed n (r heads) (long heads) ∙ sym (map-listed (λ p. p .head) n (pointIn r)),
-      λ _. take-listed n (r flows) (long flows) ∙ sym (map-listed (λ p. p .flow) n (pointIn r)),
-      λ _. take-listed n (r highest) (long highest) ∙ sym (map-listed (λ p. p .highest) n (pointIn r)),
-      λ _. take-listed n (r lowest) (long lowest) ∙ sym (map-listed (λ p. p .lowest) n (pointIn r)),
-      λ f. absurd (true≢false (sym f)),
-      λ f. absurd (true≢false (sym f)),
-    )
+    each _
+    (λ _. take-listed n (r heads) (long heads) ∙ sym (map-listed (λ p. p .head) n (pointIn r)))
+    (λ _. take-listed n (r flows) (long flows) ∙ sym (map-listed (λ p. p .flow) n (pointIn r)))
+    (λ _. take-listed n (r highest) (long highest) ∙ sym (map-listed (λ p. p .highest) n (pointIn r)))
+    (λ _. take-listed n (r lowest) (long lowest) ∙ sym (map-listed (λ p. p .lowest) n (pointIn r)))
+    (λ f. absurd (true≢false (sym f)))
+    (λ f. absurd (true≢false (sym f)))
 
 -- ---- the rows that a call leaves
 
 module _ (j : Job) (st : State) (lent : Rows) where
-  holds-long : Sized j st → (x : Row) → length (holds j st x) ≡ size j x
+  holds-long : Sized j st → (x : Row) → length (holds j st x) ≡ inUse j x
   unfolding holds
   holds-long e =
       let l : (f : Point → Float) → length (map f (st .points)) ≡ sections j = λ f. length-map (st .points) f ∙ e in
-      each _ (l _, l _, l _, l _, length-replicate _ _, length-replicate _ _)
+      each _ (l _) (l _) (l _) (l _) (length-replicate _ _) (length-replicate _ _)
 
-  pub rows-hold : Sized j st → (x : Row) → take (size j x) (rowsOf j st lent x) ≡ holds j st x
+  pub rows-hold : Sized j st → (x : Row) → take (inUse j x) (rowsOf j st lent x) ≡ holds j st x
   unfolding rowsOf
-  rows-hold e x = take-at (holds j st x) (drop (size j x) (lent x)) (size j x) (holds-long e x)
+  rows-hold e x = take-at (holds j st x) (drop (inUse j x) (lent x)) (inUse j x) (holds-long e x)
 
   -- a row that holds the state, and past the entries in use is as lent
-  pub row-left : (x : Row) (l : List Float) → take (size j x) l ≡ holds j st x → drop (size j x) l ≡ drop (size j x) (lent x) → l ≡ rowsOf j st lent x
+  pub row-left : (x : Row) (l : List Float) → take (inUse j x) l ≡ holds j st x → drop (inUse j x) l ≡ drop (inUse j x) (lent x) → l ≡ rowsOf j st lent x
   unfolding rowsOf
-  row-left x l h rest = sym (take-append-drop (size j x) l) ∙ ap₂ _++_ h rest
+  row-left x l h rest = sym (take-append-drop (inUse j x) l) ∙ ap₂ _++_ h rest
 
 -- ---- a row that a loop fills
 

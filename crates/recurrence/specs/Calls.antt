@@ -1,6 +1,6 @@
 -- What each public call does to the lent rows and what it answers: one definition for each call, refusals included. Definitions only.
-use mathlib.Core.Bool.{Bool, cond, _&&_}
-use mathlib.Core.List.{List, _++_, map}
+use mathlib.Core.Bool.{Bool, true, cond, _&&_}
+use mathlib.Core.List.{List, [], _∷_, _++_, foldr, map}
 use Prim.Native.Nat.{ℕ}
 use lib.Dec.{leb, eqb}
 use lib.ListN.{length, getD, drop, replicate}
@@ -12,7 +12,8 @@ use Rattle.job.specs.Questions.{refusal}
 use Rattle.recurrence.specs.State.{Point, State}
 use Rattle.recurrence.specs.Run.{Result, refused, ran, Answer, answerOf, start, runOn}
 
--- "Heads, flows, two envelopes and two spare rows are lent slices of f64 numbers, to start and run-on alike."
+-- "Heads, flows, two envelopes and two spare rows are lent slices of f64 numbers, to start and run-on alike": the name of each, and all of them in the
+-- order in which they are lent.
 pub data Row : Type 0 where
   heads : Row
   flows : Row
@@ -21,11 +22,15 @@ pub data Row : Type 0 where
   spareHeads : Row
   spareFlows : Row
 
--- the lent rows, each by its name
+abbrev pub allRows : List Row
+allRows = heads ∷ flows ∷ highest ∷ lowest ∷ spareHeads ∷ spareFlows ∷ []
+
+-- what the lent slices hold, each by its name
 abbrev pub Rows : Type 0
 Rows = Row → List Float
 
-abbrev pub gathered : List Float → List Float → List Float → List Float → List Float → List Float → Rows
+-- one thing for each row, in that order, by the row's name
+abbrev pub gathered : {A : Type 0} → A → A → A → A → A → A → Row → A
 gathered h q u l a b heads = h
 gathered h q u l a b flows = q
 gathered h q u l a b highest = u
@@ -33,22 +38,22 @@ gathered h q u l a b lowest = l
 gathered h q u l a b spareHeads = a
 gathered h q u l a b spareFlows = b
 
--- whether all rows pass a test
-unfoldable pub every : (Row → Bool) → Bool
-every test = test heads && test flows && test highest && test lowest && test spareHeads && test spareFlows
+-- whether every row passes a test
+abbrev pub every : (Row → Bool) → Bool
+every test = foldr (λ x rest. test x && rest) true allRows
 
--- how many entries of a row are in use: the section count of each
-abbrev pub size : Job → Row → ℕ
-size j heads = sections j
-size j flows = sections j
-size j highest = sections j
-size j lowest = sections j
-size j spareHeads = sections j
-size j spareFlows = sections j
+-- how many entries of a row a job uses: "the section count", "the count in use"
+abbrev pub inUse : Job → Row → ℕ
+inUse j heads = sections j
+inUse j flows = sections j
+inUse j highest = sections j
+inUse j lowest = sections j
+inUse j spareHeads = sections j
+inUse j spareFlows = sections j
 
 -- question 20: "does each lent slice hold the section count?"
 unfoldable pub enoughLent : Job → Rows → Bool
-enoughLent j r = every (λ x. leb (size j x) (length (r x)))
+enoughLent j r = every (λ x. leb (inUse j x) (length (r x)))
 
 -- the state that lent rows hold
 unfoldable pub pointIn : Rows → ℕ → Point
@@ -68,12 +73,12 @@ holds j st heads = map (λ p. p .head) (st .points)
 holds j st flows = map (λ p. p .flow) (st .points)
 holds j st highest = map (λ p. p .highest) (st .points)
 holds j st lowest = map (λ p. p .lowest) (st .points)
-holds j st spareHeads = replicate (size j spareHeads) zero64
-holds j st spareFlows = replicate (size j spareFlows) zero64
+holds j st spareHeads = replicate (inUse j spareHeads) zero64
+holds j st spareFlows = replicate (inUse j spareFlows) zero64
 
 -- The rows after an unrefused call: "entries past the count in use are untouched".
 unfoldable pub rowsOf : Job → State → Rows → Rows
-rowsOf j st lent x = holds j st x ++ drop (size j x) (lent x)
+rowsOf j st lent x = holds j st x ++ drop (inUse j x) (lent x)
 
 -- the rows after a call: as they were where it is refused
 unfoldable pub rowsAfter : Job → Rows → Result → Rows

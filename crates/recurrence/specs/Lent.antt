@@ -12,7 +12,7 @@ use Rattle.job.specs.Format.{jobOf}
 use Rattle.recurrence.specs.State.{State}
 use Rattle.recurrence.specs.Scan.{Cause}
 use Rattle.recurrence.specs.Run.{Answer, stopAnswer, Call, played, answers, stepsDone}
-use Rattle.recurrence.specs.Calls.{Row, heads, flows, highest, lowest, spareHeads, spareFlows, Rows, size, enoughLent, pointIn, holds, startCall, runOnCall}
+use Rattle.recurrence.specs.Calls.{Row, heads, flows, highest, lowest, spareHeads, spareFlows, Rows, inUse, enoughLent, pointIn, holds, startCall, runOnCall}
 use Rattle.recurrence.specs.Paths.{EndAt, AtLeast, NoPath}
 use Rattle.recurrence.specs.Demand.{AlikeBut, AlikeBefore}
 
@@ -42,7 +42,9 @@ unfoldable pub answerAt : List ℕ → Held → LentCall → Answer
 answerAt job h c = runOnCall job (h .done) (c .count) (c .rows) .answer
 
 unfoldable pub heldAfter : List ℕ → Held → LentCall → Held
-heldAfter job h c = cond (isRefusal (answerAt job h c)) h record { done = answerAt job h c .steps; rows = runOnCall job (h .done) (c .count) (c .rows) .rows }
+heldAfter job h c =
+    cond (isRefusal (answerAt job h c)) h
+    record { done = answerAt job h c .steps; rows = runOnCall job (h .done) (c .count) (c .rows) .rows }
 
 unfoldable pub heldFrom : List ℕ → Held → List LentCall → Held
 heldFrom job h [] = h
@@ -70,7 +72,7 @@ carried spareFlows = false
 
 -- two sets of rows hold the same heads, flows and envelopes in the entries in use
 abbrev pub SameUpTo : Job → Rows → Rows → Type 0
-SameUpTo j a b = (x : Row) → carried x ≡ true → take (size j x) (a x) ≡ take (size j x) (b x)
+SameUpTo j a b = (x : Row) → carried x ≡ true → take (inUse j x) (a x) ≡ take (inUse j x) (b x)
 
 -- "All get the state and envelopes so left; .. a call refused there may be lent less than the whole state": there is question 20.
 unfoldable pub Chained : List ℕ → Held → List LentCall → Type 0
@@ -86,7 +88,7 @@ callOf job c = record { count = c .count; enough = enoughLent (jobOf job) (c .ro
 
 -- rows hold a state in the entries in use: its heads, flows and envelopes
 abbrev pub Holds : Job → Rows → State → Type 0
-Holds j r st = (x : Row) → carried x ≡ true → take (size j x) (r x) ≡ holds j st x
+Holds j r st = (x : Row) → carried x ≡ true → take (inUse j x) (r x) ≡ holds j st x
 
 -- The public calls leave the rows, the steps done and the answers that demand 3 speaks of.
 pub record Tied (job : List ℕ) (lent : Rows) (cs : List LentCall) : Type 0 where
@@ -95,7 +97,9 @@ pub record Tied (job : List ℕ) (lent : Rows) (cs : List LentCall) : Type 0 whe
   pub answered : answersBy job lent cs ≡ answers (jobOf job) (map (callOf job) cs)
 
 abbrev pub CallsTied : Type 0
-CallsTied = (job : List ℕ) (lent : Rows) → Started job lent → (cs : List LentCall) → Chained job (heldAtStart job lent) cs → Tied job lent cs
+CallsTied =
+    (job : List ℕ) (lent : Rows) → Started job lent
+    → (cs : List LentCall) → Chained job (heldAtStart job lent) cs → Tied job lent cs
 
 -- ---- demand 3 as a caller sees it, in rows and answers
 
@@ -114,6 +118,8 @@ pub record CarriedInRows (a b : List ℕ) (x k : ℕ) (lentA lentB : Rows) (call
 -- "The same calls means the same N and the same answer to question 20, call by call."
 abbrev pub Demand3InRows : Type 0
 Demand3InRows =
-    (a b : List ℕ) (lentA lentB : Rows) → Started a lentA → Started b lentB → (x k : ℕ) → 1 ≤ k → AlikeBut x (jobOf a) (jobOf b) → AlikeBefore k x (jobOf a) (jobOf b)
-    → (callsA callsB : List LentCall) → map (callOf a) callsA ≡ map (callOf b) callsB → Chained a (heldAtStart a lentA) callsA → Chained b (heldAtStart b lentB) callsB
+    (a b : List ℕ) (lentA lentB : Rows) → Started a lentA → Started b lentB
+    → (x k : ℕ) → 1 ≤ k → AlikeBut x (jobOf a) (jobOf b) → AlikeBefore k x (jobOf a) (jobOf b)
+    → (callsA callsB : List LentCall) → map (callOf a) callsA ≡ map (callOf b) callsB
+    → Chained a (heldAtStart a lentA) callsA → Chained b (heldAtStart b lentB) callsB
     → CarriedInRows a b x k lentA lentB callsA callsB

@@ -11,7 +11,7 @@ use Rattle.job.specs.Job.{Job, Pipe, Kind, junction, reservoir, valve, Schedule
 use Rattle.job.proofs.Figures.{jobQ, jobOfAllKinds}
 use Rattle.recurrence.specs.State.{startState}
 use Rattle.recurrence.specs.Run.{Answer, answerOf, started, steps, leftBy}
-use Rattle.recurrence.specs.Calls.{Row, heads, flows, highest, lowest, spareHeads, spareFlows, Rows, gathered, holds, Called, startCall, runOnCall}
+use Rattle.recurrence.specs.Calls.{Row, heads, flows, highest, lowest, spareHeads, spareFlows, allRows, Rows, gathered, holds, Called, startCall, runOnCall}
 use Rattle.recurrence.specs.Figures.{jobQOnFloor, jobQClosing, jobQTooOpen, lentSevens, ranOn, refusal, done}
 
 -- ---- what the calls leave in the rows
@@ -32,10 +32,7 @@ abbrev pub _are_ : List Float → List Float → Type 0
 xs are ys = patterns xs ≡ patterns ys
 
 abbrev pub shown : Called → List (List ℕ)
-shown c =
-    let row : Row → List ℕ = λ x. patterns (c .rows x) in
-    row heads ∷ row flows ∷ row highest ∷ row lowest ∷ row spareHeads ∷ row spareFlows
-    ∷ (c .answer .number ∷ c .answer .steps ∷ c .answer .section ∷ []) ∷ []
+shown c = (c .answer .number ∷ c .answer .steps ∷ c .answer .section ∷ []) ∷ map (λ x. patterns (c .rows x)) allRows
 
 abbrev pub _leaves_ : Called → Called → Type 0
 c leaves d = shown c ≡ shown d
@@ -56,26 +53,28 @@ pub record RowFigures : Type 0 where
 abbrev pub refusedBy : ℕ → Rows → Called
 refusedBy q lent = record { rows = lent; answer = refusal q }
 
--- rows of four sevens, but for one that has two
-abbrev pub long : List Float
-long = replicate 4 (num 7)
+-- rows of four sevens, but for row x; with two sevens in it; with v for its third entry
+abbrev pub sevens : List Float
+sevens = replicate 4 (num 7)
 
-abbrev pub short : List Float
-short = replicate 2 (num 7)
+abbrev pub sevensBut : Row → List Float → Rows
+sevensBut heads l = gathered l sevens sevens sevens sevens sevens
+sevensBut flows l = gathered sevens l sevens sevens sevens sevens
+sevensBut highest l = gathered sevens sevens l sevens sevens sevens
+sevensBut lowest l = gathered sevens sevens sevens l sevens sevens
+sevensBut spareHeads l = gathered sevens sevens sevens sevens l sevens
+sevensBut spareFlows l = gathered sevens sevens sevens sevens sevens l
 
--- rows of four sevens with x for one of them
-abbrev pub withHead : Float → Rows
-withHead x = gathered (set long 2 x) long long long long long
+abbrev pub short : Row → Rows
+short x = sevensBut x (replicate 2 (num 7))
+
+abbrev pub holding : Float → Row → Rows
+holding v x = sevensBut x (set sevens 2 v)
 
 pub record RefusalFigures : Type 0 where
-  pub short-heads : runOnCall jobQ 0 1 (gathered short long long long long long) leaves refusedBy 20 (gathered short long long long long long)
-  pub short-flows : runOnCall jobQ 0 1 (gathered long short long long long long) leaves refusedBy 20 (gathered long short long long long long)
-  pub short-highest : runOnCall jobQ 0 1 (gathered long long short long long long) leaves refusedBy 20 (gathered long long short long long long)
-  pub short-lowest : runOnCall jobQ 0 1 (gathered long long long short long long) leaves refusedBy 20 (gathered long long long short long long)
-  pub short-spare-heads : runOnCall jobQ 0 1 (gathered long long long long short long) leaves refusedBy 20 (gathered long long long long short long)
-  pub short-spare-flows : runOnCall jobQ 0 1 (gathered long long long long long short) leaves refusedBy 20 (gathered long long long long long short)
-  pub short-start : startCall jobQ (gathered long long long long long short) leaves refusedBy 20 (gathered long long long long long short)
-  -- three entries are enough for three sections
+  -- question 20, of whichever row: two entries are too few for three sections, three are enough
+  pub short-run-on : (x : Row) → runOnCall jobQ 0 1 (short x) leaves refusedBy 20 (short x)
+  pub short-start : (x : Row) → startCall jobQ (short x) leaves refusedBy 20 (short x)
   pub just-enough : runOnCall jobQ 0 0 (λ x. replicate 3 (num 7)) .answer ≡ done 0
   -- question 21
   pub m-too-great : runOnCall jobQ 1_000_001 0 lentSevens leaves refusedBy 21 lentSevens
@@ -83,20 +82,21 @@ pub record RefusalFigures : Type 0 where
   pub both-too-great : runOnCall jobQ 999_999 2 lentSevens leaves refusedBy 21 lentSevens
   pub both-great : runOnCall jobQ 999_999 1 lentSevens .answer ≡ done 1_000_000
   -- question 22: each row, and the floor; past the section count nothing is asked
-  pub head-not-finite : runOnCall jobQ 0 0 (withHead nan) leaves refusedBy 22 (withHead nan)
-  pub head-below-floor : runOnCall jobQ 0 0 (withHead (neg (num 1))) leaves refusedBy 22 (withHead (neg (num 1)))
-  pub head-on-floor : runOnCall jobQ 0 0 (withHead (neg (num 0))) .answer ≡ done 0
-  pub flow-not-finite : runOnCall jobQ 0 0 (gathered long (set long 2 infinity64) long long long long) .answer ≡ refusal 22
-  pub highest-not-finite : runOnCall jobQ 0 0 (gathered long long (set long 2 infinity64) long long long) .answer ≡ refusal 22
-  pub lowest-not-finite : runOnCall jobQ 0 0 (gathered long long long (set long 2 (neg infinity64)) long long) .answer ≡ refusal 22
-  pub spare-not-asked : runOnCall jobQ 0 0 (gathered long long long long (set long 2 nan) long) .answer ≡ done 0
-  pub past-the-count : runOnCall jobQ 0 0 (λ x. set long 3 nan) .answer ≡ done 0
+  pub head-not-finite : runOnCall jobQ 0 0 (holding nan heads) leaves refusedBy 22 (holding nan heads)
+  pub head-below-floor : runOnCall jobQ 0 0 (holding (neg (num 1)) heads) leaves refusedBy 22 (holding (neg (num 1)) heads)
+  pub head-on-floor : runOnCall jobQ 0 0 (holding (neg (num 0)) heads) .answer ≡ done 0
+  pub flow-not-finite : runOnCall jobQ 0 0 (holding infinity64 flows) .answer ≡ refusal 22
+  pub highest-not-finite : runOnCall jobQ 0 0 (holding infinity64 highest) .answer ≡ refusal 22
+  pub lowest-not-finite : runOnCall jobQ 0 0 (holding (neg infinity64) lowest) .answer ≡ refusal 22
+  pub spare-heads-not-asked : runOnCall jobQ 0 0 (holding nan spareHeads) .answer ≡ done 0
+  pub spare-flows-not-asked : runOnCall jobQ 0 0 (holding nan spareFlows) .answer ≡ done 0
+  pub past-the-count : runOnCall jobQ 0 0 (λ x. set sevens 3 nan) .answer ≡ done 0
   -- "The first no decides": 1 to 15, 20, 21, 22
-  pub fifteen-before-20 : runOnCall jobQTooOpen 0 1 (gathered short long long long long long) leaves refusedBy 15 (gathered short long long long long long)
-  pub fifteen-before-20-start : startCall jobQTooOpen (gathered short long long long long long) leaves refusedBy 15 (gathered short long long long long long)
-  pub one-before-20 : startCall (take 45 jobQ) (gathered short long long long long long) .answer ≡ refusal 1
-  pub twenty-before-21 : runOnCall jobQ 1_000_001 0 (gathered short long long long long long) .answer ≡ refusal 20
-  pub twenty-one-before-22 : runOnCall jobQ 1_000_001 0 (withHead nan) .answer ≡ refusal 21
+  pub fifteen-before-20 : runOnCall jobQTooOpen 0 1 (short heads) leaves refusedBy 15 (short heads)
+  pub fifteen-before-20-start : startCall jobQTooOpen (short heads) leaves refusedBy 15 (short heads)
+  pub one-before-20 : startCall (take 45 jobQ) (short heads) .answer ≡ refusal 1
+  pub twenty-before-21 : runOnCall jobQ 1_000_001 0 (short heads) .answer ≡ refusal 20
+  pub twenty-one-before-22 : runOnCall jobQ 1_000_001 0 (holding nan heads) .answer ≡ refusal 21
 
 -- ---- the steps
 

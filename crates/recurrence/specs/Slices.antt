@@ -1,12 +1,9 @@
--- The lent rows as a contract has them, before and after a call. Definitions only.
+-- The lent slices as a contract has them, gathered into rows before and after a call. Definitions only.
 use mathlib.Core.List.{List}
-use Prim.Native.Nat.{_≤_}
-use lib.ListN.{length}
 use lib.Ieee.{Float}
 use denote.Ref.{RefT}
 use denote.Triple.Both.{Both}
-use Rattle.job.specs.Job.{Job}
-use Rattle.recurrence.specs.Calls.{Row, Rows, gathered, size}
+use Rattle.recurrence.specs.Calls.{Rows, gathered}
 
 -- a lent slice in a `requires`, and in an `ensures`
 abbrev pub Slice : Type 0
@@ -25,7 +22,3 @@ before h q u l a b = lent (h .entry) (q .entry) (u .entry) (l .entry) (a .entry)
 
 abbrev pub after : Slices → Slices → Slices → Slices → Slices → Slices → Rows
 after h q u l a b = lent (h .exit) (q .exit) (u .exit) (l .exit) (a .exit) (b .exit)
-
--- question 20 with a yes, as the functions promise it to each other: each row has the entries in use
-abbrev pub Enough : Job → Rows → Type 0
-Enough j r = (x : Row) → size j x ≤ length (r x)

@@ -16,20 +16,23 @@ use Rattle.recurrence.specs.Scan.{scan}
 use Rattle.recurrence.specs.Run.{steps}
 use Rattle.recurrence.specs.Calls as row
 use Rattle.recurrence.specs.Calls.{Rows, gathered, pointIn, stateIn}
-use Rattle.recurrence.proofs.RowLaws.{each}
+use Rattle.recurrence.proofs.RowLaws.{each, Enough, each-enough}
 use Rattle.rows.specs.Rows.{entry, raised, lowered, raisedAt, loweredAt, raisedTwiceAt, loweredTwiceAt}
 use Rattle.rows.specs.declared.found.Scan.{Scan}
 use Rattle.rows.specs.Faults.{firstFault, foundFault}
 use Rattle.march.specs.March.{newSection}
 use Rattle.steps.specs.Steps.{Ready, SameRest, stops, Runs}
 use Rattle.steps.proofs.Taken.{filled-at, filled-rest, scanned, state-taken}
-use Rattle.steps.proofs.Runs.{step-done, step-stops, steps-more, steps-end}
+use Rattle.steps.proofs.Runs.{ready-enough, step-done, step-stops, steps-more, steps-end}
 
 module _ (job : List ℕ) (n m : ℕ) (r : Rows) (ready : Ready job n r) (a b : List Float)
     (ea : a ≡ fill (λ s. newSection job (m + 1) (r row.heads) (r row.flows) s .head) (r row.spareHeads) 0 (sections (jobOf job)))
     (eb : b ≡ fill (λ s. newSection job (m + 1) (r row.heads) (r row.flows) s .flow) (r row.spareFlows) 0 (sections (jobOf job))) where
   abbrev j : Job
   j = jobOf job
+
+  long : Enough j r
+  long = ready-enough ready
 
   -- the state before and after the step
   abbrev old : State
@@ -55,19 +58,18 @@ module _ (job : List ℕ) (n m : ℕ) (r : Rows) (ready : Ready job n r) (a b : 
         state-taken job n (m + 1) r ready a b ea eb (gathered heads flows highest lowest a b)
         (filled-at (entry a) h eh (ready .count) lh)
         (filled-at (entry b) q eq (ready .count) lq)
-        (filled-at raise (r row.highest) eu (ready .count) (ready .enough row.highest))
-        (filled-at lower (r row.lowest) el (ready .count) (ready .enough row.lowest))
+        (filled-at raise (r row.highest) eu (ready .count) (long row.highest))
+        (filled-at lower (r row.lowest) el (ready .count) (long row.lowest))
 
     taken-rest : SameRest j r (gathered heads flows highest lowest a b)
     taken-rest =
-        each _ (
-          filled-rest _ _ eh (ready .count) ∙ dh,
-          filled-rest _ _ eq (ready .count) ∙ dq,
-          filled-rest _ _ eu (ready .count),
-          filled-rest _ _ el (ready .count),
-          filled-rest _ _ ea refl,
-          filled-rest _ _ eb refl,
-        )
+        each _
+        (filled-rest _ _ eh (ready .count) ∙ dh)
+        (filled-rest _ _ eq (ready .count) ∙ dq)
+        (filled-rest _ _ eu (ready .count))
+        (filled-rest _ _ el (ready .count))
+        (filled-rest _ _ ea refl)
+        (filled-rest _ _ eb refl)
 
   -- between the steps: the envelopes as they would stand
   between : Rows
@@ -79,22 +81,22 @@ module _ (job : List ℕ) (n m : ℕ) (r : Rows) (ready : Ready job n r) (a b : 
     accepted = ready .accepted;
     count = ready .count;
     enough =
-        each _ (
-          omega (arith, ap length ea ∙ length-fill _ _ _ _, ready .enough row.spareHeads),
-          omega (arith, ap length eb ∙ length-fill _ _ _ _, ready .enough row.spareFlows),
-          omega (arith, length-fill raise (r row.highest) 0 n, ready .enough row.highest),
-          omega (arith, length-fill lower (r row.lowest) 0 n, ready .enough row.lowest),
-          ready .enough row.heads,
-          ready .enough row.flows,
-        );
+        each-enough _ _
+        (each _
+        (omega (arith, ap length ea ∙ length-fill _ _ _ _, long row.spareHeads))
+        (omega (arith, ap length eb ∙ length-fill _ _ _ _, long row.spareFlows))
+        (omega (arith, length-fill raise (r row.highest) 0 n, long row.highest))
+        (omega (arith, length-fill lower (r row.lowest) 0 n, long row.lowest))
+        (long row.heads)
+        (long row.flows));
   }
 
   state-between : stateIn j between ≡ new
   unfolding between
   state-between =
       state-taken job n (m + 1) r ready a b ea eb between (λ s l. refl) (λ s l. refl)
-      (filled-at raise (r row.highest) refl (ready .count) (ready .enough row.highest))
-      (filled-at lower (r row.lowest) refl (ready .count) (ready .enough row.lowest))
+      (filled-at raise (r row.highest) refl (ready .count) (long row.highest))
+      (filled-at lower (r row.lowest) refl (ready .count) (long row.lowest))
 
   module _ (found : Scan) (e : foundFault found ≡ firstFault (initialTable job) a b n) where
     fault-is : foundFault found ≡ scan j new
@@ -105,7 +107,7 @@ module _ (job : List ℕ) (n m : ℕ) (r : Rows) (ready : Ready job n r) (a b : 
     kept = gathered (r row.heads) (r row.flows) (r row.highest) (r row.lowest) a b
 
     kept-rest : SameRest j r kept
-    kept-rest = each _ (refl, refl, refl, refl, filled-rest _ _ ea refl, filled-rest _ _ eb refl)
+    kept-rest = each _ refl refl refl refl (filled-rest _ _ ea refl) (filled-rest _ _ eb refl)
 
     pub one-stops : stops found ≡ true → Runs job m 1 r kept record { steps = m; found = found }
     unfolding stateIn pointIn
@@ -116,8 +118,8 @@ module _ (job : List ℕ) (n m : ℕ) (r : Rows) (ready : Ready job n r) (a b : 
         → highest ≡ fill raise (r row.highest) 0 n → lowest ≡ fill lower (r row.lowest) 0 n
         → Runs job m 1 r (gathered heads flows highest lowest a b) record { steps = m + 1; found = found }
     one-done s eh eq eu el = record {
-      result-is = rw (taken-state (r row.heads) (r row.flows) (ready .enough row.heads) (ready .enough row.flows) refl refl eh eq eu el) (step-done j m old found fault-is s);
-      rest = taken-rest (r row.heads) (r row.flows) (ready .enough row.heads) (ready .enough row.flows) refl refl eh eq eu el;
+      result-is = rw (taken-state (r row.heads) (r row.flows) (long row.heads) (long row.flows) refl refl eh eq eu el) (step-done j m old found fault-is s);
+      rest = taken-rest (r row.heads) (r row.flows) (long row.heads) (long row.flows) refl refl eh eq eu el;
     }
 
     -- ---- two steps: the second from the spare rows into the rows of heads and flows
@@ -135,10 +137,10 @@ module _ (job : List ℕ) (n m : ℕ) (r : Rows) (ready : Ready job n r) (a b : 
       fault₂-is = e₂ ∙ scanned job n (m + 1 + 1) between ready-between c d ec ed ∙ ap (λ (st : State). scan j (advanced j (m + 1 + 1) st)) state-between
 
       heads-size : sections j ≤ length c
-      heads-size = omega (arith, ap length ec ∙ length-fill _ _ _ _, ready .enough row.heads)
+      heads-size = omega (arith, ap length ec ∙ length-fill _ _ _ _, long row.heads)
 
       flows-size : sections j ≤ length d
-      flows-size = omega (arith, ap length ed ∙ length-fill _ _ _ _, ready .enough row.flows)
+      flows-size = omega (arith, ap length ed ∙ length-fill _ _ _ _, long row.flows)
 
       -- the second finds a fault, and the first is taken over
       pub two-stop-second : {heads flows highest lowest : List Float} → stops second ≡ true → heads ≡ fill (entry a) c 0 n → flows ≡ fill (entry b) d 0 n
@@ -161,21 +163,20 @@ module _ (job : List ℕ) (n m : ℕ) (r : Rows) (ready : Ready job n r) (a b : 
           let last : stateIn j (gathered c d highest lowest a b) ≡ advanced j (m + 1 + 1) (stateIn j between) =
           state-taken job n (m + 1 + 1) between ready-between c d ec ed (gathered c d highest lowest a b) (λ s l. refl) (λ s l. refl)
           (λ s l.
-          filled-at (raisedTwiceAt (r row.highest) a c) (r row.highest) eu (ready .count) (ready .enough row.highest) s l
-          ∙ ap (λ (x : Float). raised x (entry c s)) (sym (filled-at raise (r row.highest) refl (ready .count) (ready .enough row.highest) s l)))
+          filled-at (raisedTwiceAt (r row.highest) a c) (r row.highest) eu (ready .count) (long row.highest) s l
+          ∙ ap (λ (x : Float). raised x (entry c s)) (sym (filled-at raise (r row.highest) refl (ready .count) (long row.highest) s l)))
           (λ s l.
-          filled-at (loweredTwiceAt (r row.lowest) a c) (r row.lowest) el (ready .count) (ready .enough row.lowest) s l
-          ∙ ap (λ (x : Float). lowered x (entry c s)) (sym (filled-at lower (r row.lowest) refl (ready .count) (ready .enough row.lowest) s l))) in
+          filled-at (loweredTwiceAt (r row.lowest) a c) (r row.lowest) el (ready .count) (long row.lowest) s l
+          ∙ ap (λ (x : Float). lowered x (entry c s)) (sym (filled-at lower (r row.lowest) refl (ready .count) (long row.lowest) s l))) in
           let count : m + 2 ≡ m + 1 + 1 = omega arith in
           record {
             result-is = rw (count, last, state-between) (steps-more j m 1 old new record { steps = m + 1; found = found } (step-done j m old found fault-is go-on) 1 go-on refl (step-done j (m + 1) new second fault₂-is s));
             rest =
-                each _ (
-                  filled-rest _ _ ec refl,
-                  filled-rest _ _ ed refl,
-                  filled-rest _ _ eu (ready .count),
-                  filled-rest _ _ el (ready .count),
-                  filled-rest _ _ ea refl,
-                  filled-rest _ _ eb refl,
-                );
+                each _
+                (filled-rest _ _ ec refl)
+                (filled-rest _ _ ed refl)
+                (filled-rest _ _ eu (ready .count))
+                (filled-rest _ _ el (ready .count))
+                (filled-rest _ _ ea refl)
+                (filled-rest _ _ eb refl);
           }

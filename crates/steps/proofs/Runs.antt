@@ -11,8 +11,8 @@ use Rattle.recurrence.specs.State.{State}
 use Rattle.recurrence.specs.Step.{advanced}
 use Rattle.recurrence.specs.Scan.{Cause, fault, notFinite, parted, scan}
 use Rattle.recurrence.specs.Run.{Run, Result, ran, completed, stop, steps}
-use Rattle.recurrence.specs.Calls.{Row, Rows, size, stateIn}
-use Rattle.recurrence.proofs.RowLaws.{Each, each, tuple}
+use Rattle.recurrence.specs.Calls.{Row, Rows, inUse, stateIn}
+use Rattle.recurrence.proofs.RowLaws.{Each, untupled, tuple, Enough, enough-each, each-enough}
 use Rattle.recurrence.proofs.RunLaws.{steps-on, steps-stop, andThen, steps-join, steps-count}
 use Rattle.rows.specs.declared.found.Scan.{Scan}
 use Rattle.rows.specs.declared.found.Scan.the-variants.{Sound, NotFinite, Parted}
@@ -28,12 +28,16 @@ SameSize before after x = length (after x) ≡ length (before x)
 abbrev pub SameSizes : Rows → Rows → Type 0
 SameSizes before after = Each (SameSize before after)
 
--- a row of n entries in use has them
-pub ready-long : {job : List ℕ} {n : ℕ} {r : Rows} → Ready job n r → (x : Row) → size (jobOf job) x ≡ sections (jobOf job) → n ≤ length (r x)
-ready-long k x e = omega (arith, e, k .count, k .enough x)
+-- question 20 row by row, and of a row of which n entries are in use
+pub ready-enough : {job : List ℕ} {n : ℕ} {r : Rows} → Ready job n r → Enough (jobOf job) r
+ready-enough k = enough-each _ _ (k .enough)
+
+pub ready-long : {job : List ℕ} {n : ℕ} {r : Rows} → Ready job n r → (x : Row) → inUse (jobOf job) x ≡ sections (jobOf job) → n ≤ length (r x)
+ready-long k x e = omega (arith, e, k .count, ready-enough k x)
 
 pub ready-kept : {job : List ℕ} {n : ℕ} {a : Rows} (b : Rows) → SameSizes a b → Ready job n a → Ready job n b
-ready-kept {a = a} b z k = record { accepted = k .accepted; count = k .count; enough = λ x. omega (arith, each (SameSize a b) z x, k .enough x) }
+ready-kept {a = a} b z k =
+    record { accepted = k .accepted; count = k .count; enough = each-enough _ b (λ x. omega (arith, untupled (SameSize a b) z x, ready-enough k x)) }
 
 -- ---- what a scan found
 
@@ -139,7 +143,7 @@ module _ (job : List ℕ) (done count : ℕ) (r : Rows) where
         let all : ended .steps ≡ done + (i + k) = steps-all (jobOf job) (done + i) k (stateIn (jobOf job) a) (stateIn (jobOf job) b) ended (next .result-is) s ∙ (let e : done + i + k ≡ done + (i + k) = omega arith in e) in
         record {
           within = h;
-          sizes = tuple (SameSize r b) (λ x. each (SameSize a b) z x ∙ each (SameSize r a) (u .sizes) x);
+          sizes = tuple (SameSize r b) (λ x. untupled (SameSize a b) z x ∙ untupled (SameSize r a) (u .sizes) x);
           runs = record { result-is = rw (sound (ended .found) s, all) at (on next .result-is); rest = on next .rest };
         }
 

@@ -27,6 +27,7 @@ use Rattle.rows.specs.Faults.{floorIn, firstFault}
 use Rattle.rows.proofs.InState.{scan-is}
 use Rattle.march.specs.March.{held, newSection}
 use Rattle.steps.specs.Steps.{Ready}
+use Rattle.steps.proofs.Runs.{ready-enough}
 use Rattle.steps.proofs.Alike.{field-listed, new-alike}
 
 -- ---- a row filled up to n, which is k: its entries, and what stands past them
@@ -70,10 +71,10 @@ module _ (job : List ℕ) (n step : ℕ) (r : Rows) (ready : Ready job n r) wher
       (ea : a ≡ fill (λ s. newSection job step (r heads) (r flows) s .head) (r spareHeads) 0 (sections j))
       (eb : b ≡ fill (λ s. newSection job step (r heads) (r flows) s .flow) (r spareFlows) 0 (sections j)) where
     new-head : (s : ℕ) → s < sections j → entry a s ≡ new s .head
-    new-head s h = filled-at _ (r spareHeads) ea refl (ready .enough spareHeads) s h ∙ ap (λ (x : HeadFlow). x .head) (section-is s)
+    new-head s h = filled-at _ (r spareHeads) ea refl (ready-enough ready spareHeads) s h ∙ ap (λ (x : HeadFlow). x .head) (section-is s)
 
     new-flow : (s : ℕ) → s < sections j → entry b s ≡ new s .flow
-    new-flow s h = filled-at _ (r spareFlows) eb refl (ready .enough spareFlows) s h ∙ ap (λ (x : HeadFlow). x .flow) (section-is s)
+    new-flow s h = filled-at _ (r spareFlows) eb refl (ready-enough ready spareFlows) s h ∙ ap (λ (x : HeadFlow). x .flow) (section-is s)
 
     pub scanned : firstFault (initialTable job) a b n ≡ scan j (advanced j step st)
     unfolding newPoint updated

@@ -10,21 +10,20 @@ use Rattle.job.specs.Questions.{Accepted}
 use Rattle.recurrence.specs.State.{State}
 use Rattle.recurrence.specs.Scan.{notFinite, parted}
 use Rattle.recurrence.specs.Run.{Ending, completed, stop, Result, ran, steps}
-use Rattle.recurrence.specs.Calls.{Row, Rows, size, stateIn}
-use Rattle.recurrence.specs.Slices.{Enough}
+use Rattle.recurrence.specs.Calls.{Row, Rows, inUse, enoughLent, stateIn}
 use Rattle.rows.specs.declared.found.Scan.{Scan}
 use Rattle.rows.specs.declared.found.Scan.the-variants.{Sound, NotFinite, Parted}
 use Rattle.steps.specs.declared.Ended.{Ended}
 
--- an accepted job of n sections, with enough lent
+-- an accepted job of n sections, with a yes to question 20
 pub record Ready (job : List ℕ) (n : ℕ) (rows : Rows) : Type 0 where
   pub accepted : Accepted job
   pub count : n ≡ sections (jobOf job)
-  pub enough : Enough (jobOf job) rows
+  pub enough : enoughLent (jobOf job) rows ≡ true
 
 -- past the entries in use each row is as it was
 abbrev pub SameRest : Job → Rows → Rows → Type 0
-SameRest j before after = (x : Row) → drop (size j x) (after x) ≡ drop (size j x) (before x)
+SameRest j before after = (x : Row) → drop (inUse j x) (after x) ≡ drop (inUse j x) (before x)
 
 -- whether a scan found a fault
 unfoldable pub stops : Scan → Bool

@@ -17,12 +17,11 @@ use Rattle.recurrence.specs.State.{Point, State, startPoint, startState}
 use Rattle.recurrence.specs.Scan.{acceptable}
 use Rattle.recurrence.specs.Run.{Result, refused, ran, completed, answerOf, ask, started, start, steps, withinLimit, runOn}
 use Rattle.recurrence.specs.Calls as row
-use Rattle.recurrence.specs.Calls.{Row, Rows, gathered, size, enoughLent, stateIn, holds, rowsOf, rowsAfter, readFirst, called, startResult, startCall, runOnResult, runOnCall}
-use Rattle.recurrence.specs.Slices.{Enough}
+use Rattle.recurrence.specs.Calls.{Row, Rows, gathered, inUse, enoughLent, stateIn, holds, rowsOf, rowsAfter, readFirst, called, startResult, startCall, runOnResult, runOnCall}
 use Rattle.recurrence.specs.Lent.{carried}
 use Rattle.recurrence.proofs.Tests.{both}
 use Rattle.recurrence.proofs.Listed.{map-listed}
-use Rattle.recurrence.proofs.RowLaws.{each, state-held, row-left, take-filled, listed-same}
+use Rattle.recurrence.proofs.RowLaws.{each, Enough, state-held, row-left, take-filled, listed-same}
 use Rattle.surge.specs.declared.answer.Answer.{Answer}
 use Rattle.surge.specs.declared.answer.Answer.the-variants.{Refused, Done}
 use Rattle.steps.specs.declared.Ended.{Ended}
@@ -99,11 +98,11 @@ module _ (job : List ℕ) (n : ℕ) (r : Rows) (count : n ≡ sections (jobOf jo
   accepted = jobOf job
 
   -- a row filled over one that past the entries in use is as lent
-  filled-left : (st : State) (x : Row) (g : ℕ → Float) (base : List Float) {l : List Float} → n ≡ size accepted x → size accepted x ≤ length base
-      → drop (size accepted x) base ≡ drop (size accepted x) (r x) → l ≡ fill g base 0 n → listed (size accepted x) g ≡ holds accepted st x → l ≡ rowsOf accepted st r x
+  filled-left : (st : State) (x : Row) (g : ℕ → Float) (base : List Float) {l : List Float} → n ≡ inUse accepted x → inUse accepted x ≤ length base
+      → drop (inUse accepted x) base ≡ drop (inUse accepted x) (r x) → l ≡ fill g base 0 n → listed (inUse accepted x) g ≡ holds accepted st x → l ≡ rowsOf accepted st r x
   filled-left st x g base {l} e long rest filled h =
       row-left accepted st r x l
-      (ap (take (size accepted x)) filled ∙ ap (λ (k : ℕ). take (size accepted x) (fill g base 0 k)) e ∙ take-filled (size accepted x) g base long ∙ h)
+      (ap (take (inUse accepted x)) filled ∙ ap (λ (k : ℕ). take (inUse accepted x) (fill g base 0 k)) e ∙ take-filled (inUse accepted x) g base long ∙ h)
       (filled-rest g base filled e ∙ rest)
 
   -- the start: the initial heads and flows, and the spare rows cleared
@@ -117,14 +116,13 @@ module _ (job : List ℕ) (n : ℕ) (r : Rows) (count : n ≡ sections (jobOf jo
       let st = startState accepted in
       let initial : (f : Point → Float) → listed (sections accepted) (λ s. f (startPoint (initialAt accepted s))) ≡ map f (st .points) = λ f. sym (map-listed f _ _) in
       let e : (x : Row) → gathered heads flows highest lowest a b x ≡ rowsOf accepted st r x =
-      each _ (
-        filled-left st row.heads _ _ count (long row.heads) refl eh (initial (λ p. p .head)),
-        filled-left st row.flows _ _ count (long row.flows) refl eq (initial (λ p. p .flow)),
-        filled-left st row.highest _ _ count (long row.highest) refl eu (initial (λ p. p .highest)),
-        filled-left st row.lowest _ _ count (long row.lowest) refl el (initial (λ p. p .lowest)),
-        filled-left st row.spareHeads _ _ count (long row.spareHeads) refl ea (listed-same _ _),
-        filled-left st row.spareFlows _ _ count (long row.spareFlows) refl eb (listed-same _ _),
-      ) in
+      each _
+      (filled-left st row.heads _ _ count (long row.heads) refl eh (initial (λ p. p .head)))
+      (filled-left st row.flows _ _ count (long row.flows) refl eq (initial (λ p. p .flow)))
+      (filled-left st row.highest _ _ count (long row.highest) refl eu (initial (λ p. p .highest)))
+      (filled-left st row.lowest _ _ count (long row.lowest) refl el (initial (λ p. p .lowest)))
+      (filled-left st row.spareHeads _ _ count (long row.spareHeads) refl ea (listed-same _ _))
+      (filled-left st row.spareFlows _ _ count (long row.spareFlows) refl eb (listed-same _ _)) in
       λ i. record { rows = λ x. e x i; answer = record { number = 0; steps = 0; section = 0 } }
 
   -- the run-on: the rows as the run left them, and the spare rows cleared
@@ -138,12 +136,7 @@ module _ (job : List ℕ) (n : ℕ) (r : Rows) (count : n ≡ sections (jobOf jo
         let kept : (y : Row) → carried y ≡ true → a y ≡ rowsOf accepted st r y =
         λ y k. row-left accepted st r y (a y) (state-held accepted a long y k) (rest y) in
         let rows : (y : Row) → gathered (a row.heads) (a row.flows) (a row.highest) (a row.lowest) c d y ≡ rowsOf accepted st r y =
-        each _ (
-          kept row.heads refl,
-          kept row.flows refl,
-          kept row.highest refl,
-          kept row.lowest refl,
-          filled-left st row.spareHeads _ _ count (long row.spareHeads) (rest row.spareHeads) ec (listed-same _ _),
-          filled-left st row.spareFlows _ _ count (long row.spareFlows) (rest row.spareFlows) ed (listed-same _ _),
-        ) in
+        each _ (kept row.heads refl) (kept row.flows refl) (kept row.highest refl) (kept row.lowest refl)
+        (filled-left st row.spareHeads _ _ count (long row.spareHeads) (rest row.spareHeads) ec (listed-same _ _))
+        (filled-left st row.spareFlows _ _ count (long row.spareFlows) (rest row.spareFlows) ed (listed-same _ _)) in
         rw (← is) (λ i. record { rows = λ y. rows y i; answer = e i })

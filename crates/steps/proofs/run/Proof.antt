@@ -36,9 +36,7 @@ loop-again : tie.Need-loop-again Inv-loop μ-loop
 loop-again c =
     let v = c .before .before .before .before .before .before .before .before .before .before .before .before .before .before in
     let test = c .before .before .before .before .before .before .before .before .before .before .before .before .before .before .before .before .before .before .before .before .before .loop-test .taken in
-    let k = v .two-steps .kept .1 .1 .1 .1 in
-    way-next _ _ _ _ (turn v .loop .inv) (omega (arith, test))
-    (k .0, k .1 .0, k .1 .1 .0, k .1 .1 .1 .0, k .1 .1 .1 .1 .0, k .1 .1 .1 .1 .1 .0)
+    way-next _ _ _ _ (turn v .loop .inv) (omega (arith, test)) (v .two-steps .kept .1 .1 .1 .1)
     (sym (c .before .stops .ensures) ∙ c .if1 .left) (v .two-steps .ensures)
 
 returns : tie.Need-returns Inv-loop μ-loop

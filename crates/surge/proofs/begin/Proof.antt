@@ -2,7 +2,7 @@
 use mathlib.Core.Path.{refl}
 use borrow.Author.Needs.{needs}
 use Rattle.recurrence.specs.Calls.{heads, flows, highest, lowest, spareHeads, spareFlows}
-use Rattle.steps.proofs.Runs.{ready-long}
+use Rattle.steps.proofs.Runs.{ready-enough, ready-long}
 use Rattle.surge.proofs.Left.{begun}
 use Rattle.surge.proofs.begin.Statement.{statement}
 use Rattle.surge.proofs.begin.Tie as tie
@@ -21,7 +21,7 @@ returns c =
     let s = c .before .before .before .before .before .before .before .before .before .before .before .before .before .before .before .before .before .before .before .before .before .before .before .before .before .before .before in
     let w = c .before .before .before .before .before .before .before .before .before .before .before .before .before .before .before .write-start .ensures in
     let e = c .before .before .before .before .clear-spare .ensures in
-    begun _ _ _ (s .pre .count) (s .pre .enough) (w .0) (w .1) (w .2) (w .3) (e .0) (e .1)
+    begun _ _ _ (s .pre .count) (ready-enough (s .pre)) (w .0) (w .1) (w .2) (w .3) (e .0) (e .1)
 
 pub begin-spec : {M : Type 1} → statement M
 begin-spec =

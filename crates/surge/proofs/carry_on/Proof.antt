@@ -3,7 +3,7 @@ use mathlib.Core.Path.{refl}
 use borrow.Author.Needs.{needs}
 use Rattle.recurrence.specs.Calls.{spareHeads, spareFlows, Rows, gathered}
 use Rattle.steps.specs.Steps.{Ready}
-use Rattle.steps.proofs.Runs.{ready-long, ready-kept}
+use Rattle.steps.proofs.Runs.{ready-enough, ready-long, ready-kept}
 use Rattle.surge.proofs.Left.{run-left}
 use Rattle.surge.proofs.carry_on.Statement.{statement}
 use Rattle.surge.proofs.carry_on.Tie as tie
@@ -18,9 +18,7 @@ abbrev begin : tie.After-run → tie.Start
 begin c = c .before .before .before .before .before .before .before .before .before .before .before .before .before .before .before .before
 
 ready : (c : tie.After-run) → Ready (begin c .args .job .now) (begin c .args .n) (ran c)
-ready c =
-    let k = c .run .kept .1 .1 .1 .1 .1 in
-    ready-kept (ran c) (k .0, k .1 .0, k .1 .1 .0, k .1 .1 .1 .0, k .1 .1 .1 .1 .0, k .1 .1 .1 .1 .1 .0) (begin c .pre .0)
+ready c = ready-kept (ran c) (c .run .kept .1 .1 .1 .1 .1) (begin c .pre .0)
 
 clear-spare-requires : tie.Need-clear-spare-requires
 clear-spare-requires c κs = let l = ready-long (ready (c .before .before .before .before .before .before .before .before .before .before .before .before .before .before)) in (l spareHeads refl, l spareFlows refl)
@@ -30,7 +28,7 @@ returns c =
     let d = c .before .before .before .before .before .before .before .before .before .before .before .before .before .before .before .before .before .before .before .before in
     let s = begin d in
     let e = c .before .before .before .before .before .clear-spare .ensures in
-    run-left _ _ _ (s .pre .0 .count) (ran d) (d .run .ensures .rest) (ready d .enough) _ (d .run .result) (d .run .ensures .result-is) _ (c .answer-of .ensures _) (e .0) (e .1)
+    run-left _ _ _ (s .pre .0 .count) (ran d) (d .run .ensures .rest) (ready-enough (ready d)) _ (d .run .result) (d .run .ensures .result-is) _ (c .answer-of .ensures _) (e .0) (e .1)
 
 pub carry-on-spec : {M : Type 1} → statement M
 carry-on-spec =

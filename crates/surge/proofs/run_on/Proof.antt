@@ -9,7 +9,7 @@ use Rattle.job.specs.Answer.{paperAnswer}
 use Rattle.job.proofs.FirstNo.{is-yes, is-no}
 use Rattle.job.proofs.AnswerLaws.{refused-is, accepted-is}
 use Rattle.recurrence.specs.Scan.{acceptable}
-use Rattle.recurrence.specs.Calls.{heads, flows, highest, lowest, Rows, every, enoughLent, pointIn, stateIn}
+use Rattle.recurrence.specs.Calls.{heads, flows, highest, lowest, Rows, enoughLent, pointIn, stateIn}
 use Rattle.recurrence.specs.Slices.{lent}
 use Rattle.recurrence.proofs.RowLaws.{enough-each}
 use Rattle.surge.proofs.Left.{run-not-read, run-short, run-beyond, run-unacceptable, run-ran, limit-kept}
@@ -27,7 +27,7 @@ told c =
     (t .0, t .1)
 
 lent-enough : (c : tie.After-enough) → c .enough .result ≡ enoughLent (jobOf (c .before .before .before .before .before .before .before .before .before .before .before .before .args .job .now)) (rows (c .before .before .before .before .before .before .before .before .before .before .before .before))
-unfolding enoughLent every
+unfolding enoughLent
 lent-enough c = c .enough .ensures ∙ rw (told (c .before .before) .1)
 
 -- question 20 has a yes, and question 22 is asked of what the rows hold
@@ -61,7 +61,7 @@ returns-3 c =
 carry-on-requires : tie.Need-carry-on-requires
 carry-on-requires c κs =
     let t = told (c .before .before .before .before .before .before .before .before .before .before .before .before .before .before .before .before .before) in
-    (record { accepted = t .0; count = t .1; enough = enough-each _ _ (is-enough (c .before .before .before .before .before .before .before .before)) }, limit-kept _ _ (is-yes (c .before .before .before .before .before .before .before .before .before .before .before .before .before .within-limit .ensures) (c .before .before .before .before .before .before .before .if2 .left)))
+    (record { accepted = t .0; count = t .1; enough = is-enough (c .before .before .before .before .before .before .before .before) }, limit-kept _ _ (is-yes (c .before .before .before .before .before .before .before .before .before .before .before .before .before .within-limit .ensures) (c .before .before .before .before .before .before .before .if2 .left)))
 
 returns-4 : tie.Need-returns-4
 returns-4 c =

@@ -7,9 +7,8 @@ use Rattle.job.specs.Questions.{Accepted}
 use Rattle.job.specs.Answer.{paperAnswer}
 use Rattle.job.proofs.FirstNo.{is-yes, is-no}
 use Rattle.job.proofs.AnswerLaws.{refused-is, accepted-is}
-use Rattle.recurrence.specs.Calls.{Rows, every, enoughLent}
+use Rattle.recurrence.specs.Calls.{Rows, enoughLent}
 use Rattle.recurrence.specs.Slices.{lent}
-use Rattle.recurrence.proofs.RowLaws.{enough-each}
 use Rattle.surge.proofs.Left.{start-not-read, start-short, start-ran}
 use Rattle.surge.proofs.start.Statement.{statement}
 use Rattle.surge.proofs.start.Tie as tie
@@ -25,7 +24,7 @@ told c =
     (t .0, t .1)
 
 lent-enough : (c : tie.After-enough) → c .enough .result ≡ enoughLent (jobOf (c .before .before .before .before .before .before .before .before .before .before .before .before .args .job .now)) (rows (c .before .before .before .before .before .before .before .before .before .before .before .before))
-unfolding enoughLent every
+unfolding enoughLent
 lent-enough c = c .enough .ensures ∙ rw (told (c .before .before) .1)
 
 returns : tie.Need-returns
@@ -34,7 +33,7 @@ returns c = start-short _ _ (told (c .before .before .before) .0) (is-no (lent-e
 begin-requires : tie.Need-begin-requires
 begin-requires c κs =
     let t = told (c .before .before .before .before .before .before .before .before .before) in
-    record { accepted = t .0; count = t .1; enough = enough-each _ _ (is-yes (lent-enough (c .before .before .before .before .before .before .before)) (c .before .before .before .before .before .before .if1 .left)) }
+    record { accepted = t .0; count = t .1; enough = is-yes (lent-enough (c .before .before .before .before .before .before .before)) (c .before .before .before .before .before .before .if1 .left) }
 
 returns-2 : tie.Need-returns-2
 returns-2 c =

@@ -3,7 +3,7 @@ use mathlib.Core.Path.{refl, sym, _∙_}
 use native.Mathlib.Omega.{arith}
 use borrow.Author.Needs.{needs}
 use Rattle.recurrence.specs.Calls.{heads, flows, highest, lowest, spareHeads, spareFlows}
-use Rattle.steps.proofs.Runs.{ready-long}
+use Rattle.steps.proofs.Runs.{ready-enough, ready-long}
 use Rattle.steps.proofs.Rewritten.{one-stops, one-done}
 use Rattle.steps.proofs.step.one_step.Statement.{statement}
 use Rattle.steps.proofs.step.one_step.Tie as tie
@@ -15,7 +15,7 @@ work-out-requires : tie.Need-work-out-requires
 work-out-requires c κs =
     let s = c .before .before .before .before .before .before .before .before .before .before .before in
     let r = s .pre .0 in
-    ((record { accepted = r .accepted; heads-long = r .enough heads; flows-long = r .enough flows }, search needs, s .pre .2), (r .count, ready-long (s .pre .0) spareHeads refl, ready-long (s .pre .0) spareFlows refl))
+    ((record { accepted = r .accepted; heads-long = ready-enough r heads; flows-long = ready-enough r flows }, search needs, s .pre .2), (r .count, ready-long (s .pre .0) spareHeads refl, ready-long (s .pre .0) spareFlows refl))
 
 returns : tie.Need-returns
 returns c =

@@ -3,7 +3,7 @@ use mathlib.Core.Path.{refl, sym, _∙_}
 use native.Mathlib.Omega.{arith}
 use borrow.Author.Needs.{needs}
 use Rattle.recurrence.specs.Calls.{heads, flows, highest, lowest, spareHeads, spareFlows}
-use Rattle.steps.proofs.Runs.{ready-long}
+use Rattle.steps.proofs.Runs.{ready-enough, ready-long}
 use Rattle.steps.proofs.Rewritten.{two-stop-first, two-stop-second, two-done}
 use Rattle.steps.proofs.step.two_steps.Statement.{statement}
 use Rattle.steps.proofs.step.two_steps.Tie as tie
@@ -15,7 +15,7 @@ work-out-requires : tie.Need-work-out-requires
 work-out-requires c κs =
     let s = c .before .before .before .before .before .before .before .before .before .before .before in
     let r = s .pre .0 in
-    ((record { accepted = r .accepted; heads-long = r .enough heads; flows-long = r .enough flows }, search needs, s .pre .2), (r .count, ready-long (s .pre .0) spareHeads refl, ready-long (s .pre .0) spareFlows refl))
+    ((record { accepted = r .accepted; heads-long = ready-enough r heads; flows-long = ready-enough r flows }, search needs, s .pre .2), (r .count, ready-long (s .pre .0) spareHeads refl, ready-long (s .pre .0) spareFlows refl))
 
 returns : tie.Need-returns
 returns c =
@@ -30,7 +30,7 @@ work-out-requires-2 c κs =
     let s = begin w in
     let r = s .pre .0 in
     let k = w .work-out .kept .1 .1 .1 .1 .1 .1 in
-    ((record { accepted = r .accepted; heads-long = omega (arith, r .enough spareHeads, k .0); flows-long = omega (arith, r .enough spareFlows, k .1 .0) }, omega arith, s .pre .2), (r .count, ready-long (s .pre .0) heads refl, ready-long (s .pre .0) flows refl))
+    ((record { accepted = r .accepted; heads-long = omega (arith, ready-enough r spareHeads, k .0); flows-long = omega (arith, ready-enough r spareFlows, k .1 .0) }, omega arith, s .pre .2), (r .count, ready-long (s .pre .0) heads refl, ready-long (s .pre .0) flows refl))
 
 -- the first step done and the second worked out, and what is known of both
 abbrev first : tie.After-work-out2 → tie.After-work-out
