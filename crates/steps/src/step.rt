@@ -1,4 +1,4 @@
-// One step or two over the six rows.
+// One step or two over the lent rows.
 ghost use mathlib.Core.Path.{_≡_};
 ghost use Prim.Native.Nat.{ℕ, _+_, _≤_};
 ghost use lib.ListN.{length};
@@ -37,9 +37,12 @@ fn work_out(
 ) -> Scan
     requires { ⌜ (Lent (now job) (now heads) (now flows)) × (1 ≤ step) × (now t ≡ constantSums (now job)) ⌝ }
     requires { ⌜ (n ≡ sections (jobOf (now job))) × (n ≤ length (now «new_heads»)) × (n ≤ length (now «new_flows»)) ⌝ }
-    ensures { λ found. ⌜ (now («new_heads» .exit) ≡ fill (λ (s : ℕ). newSection (now (job .entry)) step (now (heads .entry)) (now (flows .entry)) s .head) (now («new_heads» .entry)) 0 (sections (jobOf (now (job .entry)))))
-        × (now («new_flows» .exit) ≡ fill (λ (s : ℕ). newSection (now (job .entry)) step (now (heads .entry)) (now (flows .entry)) s .flow) (now («new_flows» .entry)) 0 (sections (jobOf (now (job .entry)))))
-        × (foundFault found ≡ firstFault (initialTable (now (job .entry))) (now («new_heads» .exit)) (now («new_flows» .exit)) n) ⌝ }
+    ensures { λ found. ⌜ (let count = sections (jobOf (now (job .entry))) in
+        let new = newSection (now (job .entry)) step (now (heads .entry)) (now (flows .entry)) in
+        (now («new_heads» .exit) ≡ fill (λ (s : ℕ). new s .head) (now («new_heads» .entry)) 0 count)
+        × (now («new_flows» .exit) ≡ fill (λ (s : ℕ). new s .flow) (now («new_flows» .entry)) 0 count)
+        × (foundFault found
+        ≡ firstFault (initialTable (now (job .entry))) (now («new_heads» .exit)) (now («new_flows» .exit)) n)) ⌝ }
 {
     march::pipes::work_out(job, step, t, heads, flows, new_heads, new_flows);
     rows::scan(new_heads, new_flows, job::pairs::table(job, 3), n)
@@ -47,7 +50,8 @@ fn work_out(
 
 // The state out of the spare rows into the rows of heads and flows.
 fn take_over(n: usize, new_heads: &[f64], new_flows: &[f64], heads: &mut [f64], flows: &mut [f64])
-    requires { ⌜ (n ≤ length (now «new_heads»)) × (n ≤ length (now «new_flows»)) × (n ≤ length (now heads)) × (n ≤ length (now flows)) ⌝ }
+    requires { ⌜ (n ≤ length (now «new_heads»)) × (n ≤ length (now «new_flows»))
+        × (n ≤ length (now heads)) × (n ≤ length (now flows)) ⌝ }
     ensures { λ _. ⌜ (now (heads .exit) ≡ fill (entry (now («new_heads» .entry))) (now (heads .entry)) 0 n)
         × (now (flows .exit) ≡ fill (entry (now («new_flows» .entry))) (now (flows .entry)) 0 n) ⌝ }
 {

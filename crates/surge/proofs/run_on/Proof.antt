@@ -9,7 +9,7 @@ use Rattle.job.specs.Answer.{paperAnswer}
 use Rattle.job.proofs.FirstNo.{is-yes, is-no}
 use Rattle.job.proofs.AnswerLaws.{refused-is, accepted-is}
 use Rattle.recurrence.specs.Scan.{acceptable}
-use Rattle.recurrence.specs.Calls.{heads, flows, highest, lowest, Rows, enoughLent, pointIn, stateIn}
+use Rattle.recurrence.specs.Calls.{heads, flows, highest, lowest, Rows, enoughLent, stateIn}
 use Rattle.recurrence.specs.Slices.{lent}
 use Rattle.recurrence.proofs.RowLaws.{enough-each}
 use Rattle.surge.proofs.Left.{run-not-read, run-short, run-beyond, run-unacceptable, run-ran, limit-kept}
@@ -35,8 +35,7 @@ is-enough : (c : tie.After-acceptable) → enoughLent (jobOf (c .before .before 
 is-enough c = is-yes (lent-enough (c .before .before .before .before .before .before .before)) (c .before .before .before .before .before .before .if1 .left)
 
 acceptable-is : (c : tie.After-acceptable) → c .acceptable .result ≡ acceptable (jobOf (c .before .before .before .before .before .before .before .before .before .before .before .before .before .before .before .before .before .before .before .args .job .now)) (stateIn (jobOf (c .before .before .before .before .before .before .before .before .before .before .before .before .before .before .before .before .before .before .before .args .job .now)) (rows (c .before .before .before .before .before .before .before .before .before .before .before .before .before .before .before .before .before .before .before)))
-unfolding stateIn pointIn
-acceptable-is c = c .acceptable .ensures
+acceptable-is c = c .acceptable .ensures _ _
 
 returns : tie.Need-returns
 returns c = run-short _ _ (told (c .before .before .before) .0) _ _ (is-no (lent-enough (c .before)) (c .if1 .taken))
