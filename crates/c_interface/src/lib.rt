@@ -114,7 +114,8 @@ pub extern "C" fn vintuqay_line(
     lowest: f64,
     out: &mut [u8],
 ) -> usize
-    ensures { λ r. ⌜ AtFront (lineWritten section head flow highest lowest (length (now (out .entry)))) (now (out .entry)) r (now (out .exit)) ⌝ }
+    ensures { λ r. ⌜ AtFront (lineWritten section head flow highest lowest (length (now (out .entry))))
+        (now (out .entry)) r (now (out .exit)) ⌝ }
 {
     listing::write_line(section, head, flow, highest, lowest, out)
 }

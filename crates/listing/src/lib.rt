@@ -11,7 +11,8 @@ ghost use mathlib.Core.List.{_∷_, []};
 ghost use Prim.Native.Nat.{_+_, _*_, _≤_, _<_};
 ghost use lib.ListN.{length};
 ghost use Rattle.listing.specs.Text.{decimal, pattern, following, printed};
-ghost use Rattle.listing.specs.Listing.{lineText, closingText, linesText, rowLine, listingText, lineWritten, closingWritten, AtFront};
+ghost use Rattle.listing.specs.Listing.{lineText, closingText, linesText, rowLine, listingText};
+ghost use Rattle.listing.specs.Listing.{lineWritten, closingWritten, AtFront};
 ghost use Rattle.listing.specs.Written.{Written, Listable};
 
 // The bytes that question 24 asks for: a line has at most 3 digits, four fields of 17 and the newline.
@@ -20,7 +21,8 @@ const LINE: usize = 72;
 // What a section's line has after the number.
 fn put_values(head: f64, flow: f64, highest: f64, lowest: f64, out: &mut [u8], at: usize) -> usize
     requires { ⌜ at + 69 ≤ length (now out) ⌝ }
-    ensures { λ r. ⌜ Written (now (out .entry)) at (following (pattern head ∷ pattern flow ∷ pattern highest ∷ pattern lowest ∷ [])) (now (out .exit)) r ⌝ }
+    ensures { λ r. ⌜ Written (now (out .entry)) at
+        (following (pattern head ∷ pattern flow ∷ pattern highest ∷ pattern lowest ∷ [])) (now (out .exit)) r ⌝ }
     ensures { λ r. ⌜ r ≡ at + 69 ⌝ }
 {
     let a = put_pattern(head, out, at);
@@ -42,7 +44,8 @@ fn put_line(
 ) -> usize
     requires { ⌜ section < 512 ⌝ }
     requires { ⌜ at + 72 ≤ length (now out) ⌝ }
-    ensures { λ r. ⌜ Written (now (out .entry)) at (lineText section head flow highest lowest) (now (out .exit)) r ⌝ }
+    ensures { λ r. ⌜ Written (now (out .entry)) at
+        (lineText section head flow highest lowest) (now (out .exit)) r ⌝ }
     ensures { λ r. ⌜ r ≤ at + 72 ⌝ }
 {
     let next = put_decimal(section, out, at);
@@ -59,7 +62,8 @@ pub fn write_line(
     lowest: f64,
     out: &mut [u8],
 ) -> usize
-    ensures { λ r. ⌜ AtFront (lineWritten section head flow highest lowest (length (now (out .entry)))) (now (out .entry)) r (now (out .exit)) ⌝ }
+    ensures { λ r. ⌜ AtFront (lineWritten section head flow highest lowest (length (now (out .entry))))
+        (now (out .entry)) r (now (out .exit)) ⌝ }
 {
     if section >= 512 {
         return 0;
@@ -90,7 +94,8 @@ pub fn line<'a>(
 // A word, a number and the newline.
 fn put_word_number(word: &[u8], n: usize, out: &mut [u8], at: usize) -> usize
     requires { ⌜ (length (now word) ≤ 9) × (at + 72 ≤ length (now out)) ⌝ }
-    ensures { λ r. ⌜ Written (now (out .entry)) at (printed (now (word .entry)) (decimal n ∷ [])) (now (out .exit)) r ⌝ }
+    ensures { λ r. ⌜ Written (now (out .entry)) at
+        (printed (now (word .entry)) (decimal n ∷ [])) (now (out .exit)) r ⌝ }
     ensures { λ r. ⌜ r ≤ at + 72 ⌝ }
 {
     let a = put_text(word, out, at);
@@ -101,7 +106,8 @@ fn put_word_number(word: &[u8], n: usize, out: &mut [u8], at: usize) -> usize
 // A word, two numbers and the newline.
 fn put_word_numbers(word: &[u8], m: usize, n: usize, out: &mut [u8], at: usize) -> usize
     requires { ⌜ (length (now word) ≤ 9) × (at + 72 ≤ length (now out)) ⌝ }
-    ensures { λ r. ⌜ Written (now (out .entry)) at (printed (now (word .entry)) (decimal m ∷ decimal n ∷ [])) (now (out .exit)) r ⌝ }
+    ensures { λ r. ⌜ Written (now (out .entry)) at
+        (printed (now (word .entry)) (decimal m ∷ decimal n ∷ [])) (now (out .exit)) r ⌝ }
     ensures { λ r. ⌜ r ≤ at + 72 ⌝ }
 {
     let a = put_text(word, out, at);
@@ -131,7 +137,8 @@ fn put_closing(number: usize, steps: usize, section: usize, out: &mut [u8], at: 
 // Writes the closing line of an answer at the front of `out` and answers how many bytes it takes; 0,
 // with `out` as it was, where `out` is shorter than question 24 asks for a line.
 pub fn write_closing(number: usize, steps: usize, section: usize, out: &mut [u8]) -> usize
-    ensures { λ r. ⌜ AtFront (closingWritten number steps section (length (now (out .entry)))) (now (out .entry)) r (now (out .exit)) ⌝ }
+    ensures { λ r. ⌜ AtFront (closingWritten number steps section (length (now (out .entry))))
+        (now (out .entry)) r (now (out .exit)) ⌝ }
 {
     if out.len() < LINE {
         return 0;
@@ -149,7 +156,9 @@ fn put_lines(
     out: &mut [u8],
 ) -> usize
     requires { ⌜ Listable count (now heads) (now flows) (now highest) (now lowest) (now out) ⌝ }
-    ensures { λ r. ⌜ Written (now (out .entry)) 0 (linesText (rowLine (now (heads .entry)) (now (flows .entry)) (now (highest .entry)) (now (lowest .entry))) count) (now (out .exit)) r ⌝ }
+    ensures { λ r. ⌜ (let line = rowLine (now (heads .entry)) (now (flows .entry))
+        (now (highest .entry)) (now (lowest .entry)) in
+        Written (now (out .entry)) 0 (linesText line count) (now (out .exit)) r) ⌝ }
     ensures { λ r. ⌜ r ≤ count * 72 ⌝ }
 {
     let mut at = 0;
@@ -175,7 +184,9 @@ pub fn write_listing(
     out: &mut [u8],
 ) -> usize
     requires { ⌜ Listable count (now heads) (now flows) (now highest) (now lowest) (now out) ⌝ }
-    ensures { λ r. ⌜ AtFront (listingText (rowLine (now (heads .entry)) (now (flows .entry)) (now (highest .entry)) (now (lowest .entry))) count number steps section) (now (out .entry)) r (now (out .exit)) ⌝ }
+    ensures { λ r. ⌜ (let line = rowLine (now (heads .entry)) (now (flows .entry))
+        (now (highest .entry)) (now (lowest .entry)) in
+        AtFront (listingText line count number steps section) (now (out .entry)) r (now (out .exit))) ⌝ }
 {
     let at = put_lines(count, heads, flows, highest, lowest, out);
     put_closing(number, steps, section, out, at)

@@ -23,7 +23,8 @@ fn print_listing(
     steps: usize,
     section: usize,
 )
-    requires { ⌜ (count ≤ 512) × (count ≤ length (now heads)) × (count ≤ length (now flows)) × (count ≤ length (now highest)) × (count ≤ length (now lowest)) ⌝ }
+    requires { ⌜ (count ≤ 512) × (count ≤ length (now heads)) × (count ≤ length (now flows))
+        × (count ≤ length (now highest)) × (count ≤ length (now lowest)) ⌝ }
 {
     let mut text = [0u8; 36936];
     let n = listing::write_listing(
