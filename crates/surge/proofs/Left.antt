@@ -1,6 +1,6 @@
 -- What a call leaves in the rows, and its answer: refused, begun, or run on. Assumes nothing.
 use mathlib.Core.Path.{_≡_, refl, sym, ap, _∙_}
-use mathlib.Core.Bool.{true, false}
+use mathlib.Core.Bool.{Bool, true, false}
 use mathlib.Core.List.{List, map}
 use Prim.Native.Nat.{ℕ, _+_, _-_, _≤_}
 use native.Mathlib.Omega.{arith}
@@ -17,7 +17,7 @@ use Rattle.recurrence.specs.State.{Point, State, startPoint, startState}
 use Rattle.recurrence.specs.Scan.{acceptable}
 use Rattle.recurrence.specs.Run.{Result, refused, ran, completed, answerOf, ask, started, start, steps, withinLimit, runOn}
 use Rattle.recurrence.specs.Calls as row
-use Rattle.recurrence.specs.Calls.{Row, Rows, gathered, inUse, enoughLent, stateIn, holds, rowsOf, rowsAfter, readFirst, called, startResult, startCall, runOnResult, runOnCall}
+use Rattle.recurrence.specs.Calls.{Row, Rows, gathered, every, inUse, enoughLent, stateIn, holds, rowsOf, rowsAfter, readFirst, called, startResult, startCall, runOnResult, runOnCall}
 use Rattle.recurrence.specs.Lent.{carried}
 use Rattle.recurrence.proofs.Tests.{both}
 use Rattle.recurrence.proofs.Listed.{map-listed}
@@ -30,6 +30,11 @@ use Rattle.steps.specs.Steps.{SameRest, resultOf}
 use Rattle.steps.proofs.Taken.{filled-rest}
 
 -- ---- the questions
+
+-- question 20, as the code asks it of the section count
+pub enough-is : (j : Job) (r : Rows) {n : ℕ} {b : Bool} → n ≡ sections j → b ≡ every (λ x. leb n (length (r x))) → b ≡ enoughLent j r
+unfolding enoughLent
+enough-is j r count e = e ∙ ap (λ (k : ℕ). every (λ x. leb k (length (r x)))) count
 
 module _ (job : List ℕ) (r : Rows) where
   abbrev j : Job
