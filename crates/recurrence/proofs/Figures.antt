@@ -4,7 +4,7 @@ use Rattle.root.proofs.Figures.{p10}
 use Rattle.wave.proofs.Figures.{bench-figures}
 use Rattle.recurrence.specs.Figures.{BenchTable}
 use Rattle.recurrence.specs.OwnFigures.{RowFigures, RefusalFigures, StepFigures}
-use Rattle.recurrence.proofs.RowLaws.{each}
+use Rattle.recurrence.proofs.EachRow.{each}
 use Rattle.recurrence.proofs.Opened.{opened}
 
 pub bench-table : BenchTable

@@ -1,5 +1,5 @@
 -- The lent rows, each by its name: question 20, what they hold, and what a call leaves in them. Assumes nothing.
--- Each, each, tuple   a fact of every row;  enough-each, each-enough   question 20
+-- enough-each, each-enough   question 20
 -- state-at, holds-point, holds-state, state-held   the state in the rows
 -- rows-hold, row-left   the rows that a call leaves;  take-filled   a row that a loop fills
 use mathlib.Core.Path.{_≡_, refl, sym, ap, ap₂, _∙_}
@@ -22,34 +22,9 @@ use Rattle.recurrence.specs.State.{Point, State, noPoint, pointAt}
 use Rattle.recurrence.specs.Calls.{Row, heads, flows, highest, lowest, spareHeads, spareFlows, allRows, Rows, inUse, enoughLent, pointIn, stateIn, holds, rowsOf}
 use Rattle.recurrence.specs.Lent.{Holds}
 use Rattle.recurrence.proofs.Tests.{both}
-use Rattle.recurrence.proofs.Listed.{length-listed, getD-listed, map-listed}
+use Rattle.recurrence.proofs.Listed.{length-listed, getD-listed, map-listed, listed-cong}
 use Rattle.recurrence.proofs.Runs.{Sized}
-
--- a fact of every row, by the row's name, from one for each in their order
-pub each : (P : Row → Type 0) → P heads → P flows → P highest → P lowest → P spareHeads → P spareFlows → (x : Row) → P x
-each P h q u l a b heads = h
-each P h q u l a b flows = q
-each P h q u l a b highest = u
-each P h q u l a b lowest = l
-each P h q u l a b spareHeads = a
-each P h q u l a b spareFlows = b
-
--- a fact of each of some rows, and of every row, as a tuple, which `search` and `omega` look into
-abbrev EachOf : (Row → Type 0) → List Row → Type 0
-EachOf P xs = foldr (λ x (T : Type 0). P x × T) Unit xs
-
-abbrev pub Each : (Row → Type 0) → Type 0
-Each P = EachOf P allRows
-
-pub untupled : (P : Row → Type 0) → Each P → (x : Row) → P x
-untupled P t = each P (t .0) (t .1 .0) (t .1 .1 .0) (t .1 .1 .1 .0) (t .1 .1 .1 .1 .0) (t .1 .1 .1 .1 .1 .0)
-
-tuple-of : (P : Row → Type 0) → ((x : Row) → P x) → (xs : List Row) → EachOf P xs
-tuple-of P f [] = tt
-tuple-of P f (x ∷ xs) = (f x, tuple-of P f xs)
-
-pub tuple : (P : Row → Type 0) → ((x : Row) → P x) → Each P
-tuple P f = tuple-of P f allRows
+use Rattle.recurrence.proofs.EachRow.{EachOf, each, untupled}
 
 -- ---- question 20
 
@@ -149,11 +124,8 @@ module _ (j : Job) (st : State) (lent : Rows) where
 
 pub take-filled : (n : ℕ) (g : ℕ → Float) (l : List Float) → n ≤ length l → take n (fill g l 0 n) ≡ listed n g
 take-filled n g l h =
-    let long : n ≤ length (fill g l 0 n) = omega (arith, length-fill g l 0 n) in
-    ext-getD zero64 (take n (fill g l 0 n)) (listed n g) (length-take-le n (fill g l 0 n) long ∙ sym (length-listed n g))
-    (λ s q.
-    let b : s < n = omega (arith, length-take-le n (fill g l 0 n) long) in
-    getD-take n (fill g l 0 n) s zero64 b ∙ rw (zero-add s) at (fill-in g l 0 zero64 n s (omega arith) b) ∙ sym (getD-listed n g s zero64 b))
+    take-listed n (fill g l 0 n) (omega (arith, length-fill g l 0 n))
+    ∙ listed-cong n _ g (λ s b. rw (zero-add s) at (fill-in g l 0 zero64 n s (omega arith) b))
 
 pub listed-same : (n : ℕ) (v : Float) → listed n (λ s. v) ≡ replicate n v
 listed-same n v =

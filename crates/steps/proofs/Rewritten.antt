@@ -16,7 +16,8 @@ use Rattle.recurrence.specs.Scan.{scan}
 use Rattle.recurrence.specs.Run.{steps}
 use Rattle.recurrence.specs.Calls as row
 use Rattle.recurrence.specs.Calls.{Rows, gathered, pointIn, stateIn}
-use Rattle.recurrence.proofs.RowLaws.{each, Enough, each-enough}
+use Rattle.recurrence.proofs.EachRow.{each}
+use Rattle.recurrence.proofs.RowLaws.{Enough, each-enough}
 use Rattle.rows.specs.Rows.{entry, raised, lowered, raisedAt, loweredAt, raisedTwiceAt, loweredTwiceAt}
 use Rattle.rows.specs.declared.found.Scan.{Scan}
 use Rattle.rows.specs.Faults.{firstFault, foundFault}

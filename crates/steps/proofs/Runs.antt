@@ -12,7 +12,8 @@ use Rattle.recurrence.specs.Step.{advanced}
 use Rattle.recurrence.specs.Scan.{Cause, fault, notFinite, parted, scan}
 use Rattle.recurrence.specs.Run.{Run, Result, ran, completed, stop, steps}
 use Rattle.recurrence.specs.Calls.{Row, Rows, inUse, stateIn}
-use Rattle.recurrence.proofs.RowLaws.{Each, untupled, tuple, Enough, enough-each, each-enough}
+use Rattle.recurrence.proofs.EachRow.{Each, untupled, tuple}
+use Rattle.recurrence.proofs.RowLaws.{Enough, enough-each, each-enough}
 use Rattle.recurrence.proofs.RunLaws.{steps-on, steps-stop, andThen, steps-join, steps-count}
 use Rattle.rows.specs.declared.found.Scan.{Scan}
 use Rattle.rows.specs.declared.found.Scan.the-variants.{Sound, NotFinite, Parted}

@@ -21,7 +21,8 @@ use Rattle.recurrence.specs.Calls.{Row, Rows, gathered, every, inUse, enoughLen
 use Rattle.recurrence.specs.Lent.{carried}
 use Rattle.recurrence.proofs.Tests.{both}
 use Rattle.recurrence.proofs.Listed.{map-listed}
-use Rattle.recurrence.proofs.RowLaws.{each, Enough, state-held, row-left, take-filled, listed-same}
+use Rattle.recurrence.proofs.EachRow.{each}
+use Rattle.recurrence.proofs.RowLaws.{Enough, state-held, row-left, take-filled, listed-same}
 use Rattle.surge.specs.declared.answer.Answer.{Answer}
 use Rattle.surge.specs.declared.answer.Answer.the-variants.{Refused, Done}
 use Rattle.steps.specs.declared.Ended.{Ended}
