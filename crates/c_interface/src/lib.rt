@@ -64,10 +64,10 @@ pub extern "C" fn vintuqay_start(
     spare_heads: &mut [f64],
     spare_flows: &mut [f64],
 ) -> u64
-    ensures { λ r. ⌜ r ≡ packedAnswer (startCall (now (job .entry))
-        (before heads flows highest lowest «spare_heads» «spare_flows») .answer) ⌝ }
-    ensures { λ _. ⌜ after heads flows highest lowest «spare_heads» «spare_flows»
-        ≡ startCall (now (job .entry)) (before heads flows highest lowest «spare_heads» «spare_flows») .rows ⌝ }
+    ensures { λ r. ⌜ (let call = startCall (now (job .entry))
+        (before heads flows highest lowest «spare_heads» «spare_flows») in
+        (r ≡ packedAnswer (call .answer))
+        × (after heads flows highest lowest «spare_heads» «spare_flows» ≡ call .rows)) ⌝ }
 {
     pack_answer(surge::start(job, heads, flows, highest, lowest, spare_heads, spare_flows))
 }
@@ -85,11 +85,10 @@ pub extern "C" fn vintuqay_run_on(
     spare_heads: &mut [f64],
     spare_flows: &mut [f64],
 ) -> u64
-    ensures { λ r. ⌜ r ≡ packedAnswer (runOnCall (now (job .entry)) done count
-        (before heads flows highest lowest «spare_heads» «spare_flows») .answer) ⌝ }
-    ensures { λ _. ⌜ after heads flows highest lowest «spare_heads» «spare_flows»
-        ≡ runOnCall (now (job .entry)) done count
-        (before heads flows highest lowest «spare_heads» «spare_flows») .rows ⌝ }
+    ensures { λ r. ⌜ (let call = runOnCall (now (job .entry)) done count
+        (before heads flows highest lowest «spare_heads» «spare_flows») in
+        (r ≡ packedAnswer (call .answer))
+        × (after heads flows highest lowest «spare_heads» «spare_flows» ≡ call .rows)) ⌝ }
 {
     pack_answer(surge::run_on(
         job,
