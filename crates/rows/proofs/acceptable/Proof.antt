@@ -12,10 +12,10 @@ use Rattle.rows.proofs.acceptable.Statement.{statement}
 use Rattle.rows.proofs.acceptable.Tie as tie
 
 abbrev Inv-loop : tie.InvT-loop
-Inv-loop heads flows highest lowest initial n s₀ s = Passing (acceptableIn initial heads flows highest lowest) n s
+Inv-loop initial n heads flows highest lowest s₀ s = Passing (acceptableIn initial heads flows highest lowest) n s
 
 abbrev μ-loop : tie.MeasureT-loop
-μ-loop heads flows highest lowest initial n s₀ s = n - s
+μ-loop initial n heads flows highest lowest s₀ s = n - s
 
 loop-holds : tie.Need-loop-holds Inv-loop μ-loop
 loop-holds c = passing-none _

@@ -11,10 +11,10 @@ use Rattle.rows.proofs.faults.Statement.{statement}
 use Rattle.rows.proofs.faults.Tie as tie
 
 abbrev Inv-loop : tie.InvT-loop
-Inv-loop heads flows initial n bad₀ i₀ bad i = Counting (soundAt initial heads flows) n i bad
+Inv-loop initial n heads flows bad₀ i₀ bad i = Counting (soundAt initial heads flows) n i bad
 
 abbrev μ-loop : tie.MeasureT-loop
-μ-loop heads flows initial n bad₀ i₀ bad i = n - i
+μ-loop initial n heads flows bad₀ i₀ bad i = n - i
 
 loop-holds : tie.Need-loop-holds Inv-loop μ-loop
 loop-holds c = counting-none _

@@ -11,10 +11,10 @@ use Rattle.rows.proofs.first_fault.Statement.{statement}
 use Rattle.rows.proofs.first_fault.Tie as tie
 
 abbrev Inv-loop : tie.InvT-loop
-Inv-loop heads flows initial n s₀ s = NoneYet (faultAt initial heads flows) n s
+Inv-loop initial n heads flows s₀ s = NoneYet (faultAt initial heads flows) n s
 
 abbrev μ-loop : tie.MeasureT-loop
-μ-loop heads flows initial n s₀ s = n - s
+μ-loop initial n heads flows s₀ s = n - s
 
 loop-holds : tie.Need-loop-holds Inv-loop μ-loop
 loop-holds c = none-yet _

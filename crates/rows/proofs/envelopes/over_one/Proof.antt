@@ -10,10 +10,10 @@ use Rattle.rows.proofs.envelopes.over_one.Statement.{statement}
 use Rattle.rows.proofs.envelopes.over_one.Tie as tie
 
 abbrev Inv-loop : tie.InvT-loop
-Inv-loop highs₀ lows₀ heads n i₀ highs lows i = Upto (raisedAt highs₀ heads) highs₀ 0 n i highs × Upto (loweredAt lows₀ heads) lows₀ 0 n i lows
+Inv-loop n heads highest₀ lowest₀ i₀ highest lowest i = Upto (raisedAt heads highest₀) highest₀ 0 n i highest × Upto (loweredAt heads lowest₀) lowest₀ 0 n i lowest
 
 abbrev μ-loop : tie.MeasureT-loop
-μ-loop highs₀ lows₀ heads n i₀ highs lows i = n - i
+μ-loop n heads highest₀ lowest₀ i₀ highest lowest i = n - i
 
 loop-holds : tie.Need-loop-holds Inv-loop μ-loop
 loop-holds c = (upto-none, upto-none)

@@ -10,10 +10,10 @@ use Rattle.rows.proofs.envelopes.over_two.Statement.{statement}
 use Rattle.rows.proofs.envelopes.over_two.Tie as tie
 
 abbrev Inv-loop : tie.InvT-loop
-Inv-loop highs₀ lows₀ first second n i₀ highs lows i = Upto (raisedTwiceAt highs₀ first second) highs₀ 0 n i highs × Upto (loweredTwiceAt lows₀ first second) lows₀ 0 n i lows
+Inv-loop n first second highest₀ lowest₀ i₀ highest lowest i = Upto (raisedTwiceAt first second highest₀) highest₀ 0 n i highest × Upto (loweredTwiceAt first second lowest₀) lowest₀ 0 n i lowest
 
 abbrev μ-loop : tie.MeasureT-loop
-μ-loop highs₀ lows₀ first second n i₀ highs lows i = n - i
+μ-loop n first second highest₀ lowest₀ i₀ highest lowest i = n - i
 
 loop-holds : tie.Need-loop-holds Inv-loop μ-loop
 loop-holds c = (upto-none, upto-none)
