@@ -98,8 +98,8 @@ newBy head f st l zero = startEnd (l .pipe .S) (kAtStart f st l) (head (l .pipe 
 newBy head f st l (suc i) =
     cond (eqb (suc i) (l .pipe .reaches)) (finishEnd (l .pipe .S) (kAtFinish f st l) (head (l .pipe .finish))) (between f st l i)
 
-abbrev pub newInPipe : List ℕ → List Float → List Float → List Float → Laid → ℕ → HeadFlow
-newInPipe job nodes heads flows l i = newBy (λ y. getD nodes y nan) (inputs (jobOf job) 0) (old job heads flows) l i
+abbrev pub newInPipe : List ℕ → Laid → List Float → List Float → List Float → ℕ → HeadFlow
+newInPipe job l nodes heads flows i = newBy (λ y. getD nodes y nan) (inputs (jobOf job) 0) (old job heads flows) l i
 
 -- the new head and flow of section s at step n
 unfoldable pub newSection : List ℕ → ℕ → List Float → List Float → ℕ → HeadFlow

@@ -8,7 +8,7 @@ use Rattle.loops.proofs.Fill.{fill-two}
 use Rattle.loops.proofs.All.{all-at}
 use Rattle.wave.specs.declared.HeadFlow.{HeadFlow}
 use Rattle.sweep.specs.declared.TwoCp.{TwoCp}
-use Rattle.sweep.specs.Sweep.{innerHead, innerFlow}
+use Rattle.sweep.specs.Sweep.{innerAt}
 use Rattle.sweep.proofs.Sweeping.{carried, worked-out}
 use Rattle.sweep.proofs.write_pair.Statement.{statement}
 use Rattle.sweep.proofs.write_pair.Tie as tie
@@ -26,7 +26,6 @@ cp-along-requires-2 : tie.Need-cp-along-requires-2
 cp-along-requires-2 c κs = (omega arith, all-at _ _ _ (c .before .before .before .before .before .before .before .before .before .before .before .before .pre .0 .friction-finite) (omega arith))
 
 returns : tie.Need-returns
-unfolding innerHead innerFlow
 returns c =
     let start = c .before .before .before .before .before .before .before .before .before .before .before .before .before in
     let a = start .args in
@@ -43,8 +42,10 @@ returns c =
         carried friction (a .s) heads flows (i + 3) (omega arith) (omega arith) (c .cp-along2 .ensures),
         e,
       ),
-      fill-two (innerHead friction (a .s) heads flows) (now (a .new-heads)) i (omega arith) (omega arith) (ap (λ (z : HeadFlow). z .head) x) (ap (λ (z : HeadFlow). z .head) y),
-      fill-two (innerFlow friction (a .s) heads flows) (now (a .new-flows)) i (omega arith) (omega arith) (ap (λ (z : HeadFlow). z .flow) x) (ap (λ (z : HeadFlow). z .flow) y),
+      (
+        fill-two (λ k. innerAt friction (a .s) heads flows k .head) (now (a .new-heads)) i (omega arith) (omega arith) (ap (λ (z : HeadFlow). z .head) x) (ap (λ (z : HeadFlow). z .head) y),
+        fill-two (λ k. innerAt friction (a .s) heads flows k .flow) (now (a .new-flows)) i (omega arith) (omega arith) (ap (λ (z : HeadFlow). z .flow) x) (ap (λ (z : HeadFlow). z .flow) y),
+      ),
     )
 
 pub write-pair-spec : {M : Type 1} → statement M

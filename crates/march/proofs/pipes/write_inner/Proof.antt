@@ -3,7 +3,6 @@ use mathlib.Core.Path.{ap}
 use lib.ListN.{length}
 use native.Mathlib.Omega.{arith}
 use borrow.Author.Needs.{needs}
-use Rattle.sweep.specs.Sweep.{innerHead, innerFlow}
 use Rattle.march.specs.March.{laidOf}
 use Rattle.march.proofs.Accept.{Within, within, few-sections, few-reaches, pairs-accepted, friction-long}
 use Rattle.march.proofs.Inner.{cut-to-pipe, put-back}
@@ -68,7 +67,6 @@ sweep-requires c κs =
     (cut-to-pipe _ _ _ (s .pre .0 .0) (laidOf (s .args .l)) (s .pre .0 .1) _ _ (s .pre .1 .0) (s .pre .1 .1))
 
 returns : tie.Need-returns
-unfolding innerHead innerFlow
 returns c =
     let s = c .before .before .before .before .before .before .before .before .before .before .before .before .before .before .before .before .before .before .before in
     let t = c .before .before .before .before .before .before .before .before .before .before .before .before .before .table .ensures in
