@@ -16,13 +16,13 @@ mul-start-end : tie.Need-mul-start-end
 mul-start-end c = omega (arith, lies (c .before .before .before .before))
 
 element-copy-out-start-end : tie.Need-element-copy-out-start-end
-element-copy-out-start-end c = lies (c .before .before .before .before) .start-low
+element-copy-out-start-end c = omega (arith, lies (c .before .before .before .before))
 
 mul-finish-end : tie.Need-mul-finish-end
 mul-finish-end c = omega (arith, lies (c .before .before .before .before .before .before .before))
 
 element-copy-out-finish-end : tie.Need-element-copy-out-finish-end
-element-copy-out-finish-end c = lies (c .before .before .before .before .before .before .before) .finish-low
+element-copy-out-finish-end c = omega (arith, lies (c .before .before .before .before .before .before .before))
 
 returns : tie.Need-returns
 returns c =
