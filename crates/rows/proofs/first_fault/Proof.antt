@@ -16,9 +16,6 @@ Inv-loop initial n heads flows s₀ s = NoneYet (faultAt initial heads flows) n 
 abbrev μ-loop : tie.MeasureT-loop
 μ-loop initial n heads flows s₀ s = n - s
 
-loop-holds : tie.Need-loop-holds Inv-loop μ-loop
-loop-holds c = none-yet _
-
 -- what is found at this section is its fault
 found :
     (c : tie.After-fault-of Inv-loop μ-loop)
@@ -55,7 +52,7 @@ first-fault-spec =
     (tie.spec
     Inv-loop
     μ-loop
-    loop-holds
+    (λ c. none-yet _)
     (λ c. search needs)
     (λ c. search needs)
     (λ c. search needs)

@@ -5,25 +5,12 @@ use native.Mathlib.Omega.{arith}
 use lib.ListN.{length-set}
 use denote.Ref.{now}
 use Rattle.loops.proofs.Fill.{fill-two}
-use Rattle.loops.proofs.All.{all-at}
 use Rattle.wave.specs.declared.HeadFlow.{HeadFlow}
 use Rattle.sweep.specs.declared.TwoCp.{TwoCp}
 use Rattle.sweep.specs.Sweep.{innerAt}
-use Rattle.sweep.proofs.Sweeping.{carried, worked-out}
+use Rattle.sweep.proofs.Sweeping.{carried, worked-out, in-reach}
 use Rattle.sweep.proofs.write_pair.Statement.{statement}
 use Rattle.sweep.proofs.write_pair.Tie as tie
-
-inner-along-requires : tie.Need-inner-along-requires
-inner-along-requires c κs = (omega arith, all-at _ _ _ (c .before .before .before .before .before .before .before .before .before .pre .0 .friction-finite) (omega arith))
-
-inner-along-requires-2 : tie.Need-inner-along-requires-2
-inner-along-requires-2 c κs = (omega arith, all-at _ _ _ (c .before .before .before .before .before .before .before .before .before .before .pre .0 .friction-finite) (omega arith))
-
-cp-along-requires : tie.Need-cp-along-requires
-cp-along-requires c κs = (omega arith, all-at _ _ _ (c .before .before .before .before .before .before .before .before .before .before .before .pre .0 .friction-finite) (omega arith))
-
-cp-along-requires-2 : tie.Need-cp-along-requires-2
-cp-along-requires-2 c κs = (omega arith, all-at _ _ _ (c .before .before .before .before .before .before .before .before .before .before .before .before .pre .0 .friction-finite) (omega arith))
 
 returns : tie.Need-returns
 returns c =
@@ -65,15 +52,9 @@ write-pair-spec =
     (λ c. omega arith)
     (λ c. omega arith)
     (λ c. omega arith)
-    inner-along-requires
+    (λ c κs. in-reach (c .before .before .before .before .before .before .before .before .before .pre .0) _ (omega arith))
     (λ c. omega arith)
-    inner-along-requires-2
-    (λ c. omega arith)
-    (λ c. omega arith)
-    (λ c. omega arith)
-    (λ c. omega arith)
-    (λ c. omega arith)
-    (λ c. simp length-set (omega arith))
+    (λ c κs. in-reach (c .before .before .before .before .before .before .before .before .before .before .pre .0) _ (omega arith))
     (λ c. omega arith)
     (λ c. omega arith)
     (λ c. omega arith)
@@ -81,9 +62,15 @@ write-pair-spec =
     (λ c. omega arith)
     (λ c. simp length-set (omega arith))
     (λ c. omega arith)
-    cp-along-requires
     (λ c. omega arith)
-    cp-along-requires-2
+    (λ c. omega arith)
+    (λ c. omega arith)
+    (λ c. omega arith)
+    (λ c. simp length-set (omega arith))
+    (λ c. omega arith)
+    (λ c κs. in-reach (c .before .before .before .before .before .before .before .before .before .before .before .pre .0) _ (omega arith))
+    (λ c. omega arith)
+    (λ c κs. in-reach (c .before .before .before .before .before .before .before .before .before .before .before .before .pre .0) _ (omega arith))
     (λ c. simp length-set)
     (λ c. simp length-set)
     returns)
