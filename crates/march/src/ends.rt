@@ -7,15 +7,15 @@ ghost use lib.ListN.{getD, set};
 ghost use lib.Ieee.{nan};
 ghost use Rattle.fields.specs.Real.{_⊞_};
 ghost use Rattle.job.specs.Job.{frictionAt};
-ghost use Rattle.job.specs.Format.{jobOf, pipeTable, pipeCount};
+ghost use Rattle.job.specs.Format.{jobOf, reachesOf};
 ghost use Rattle.job.specs.Questions.{Accepted};
 ghost use Rattle.recurrence.specs.Step.{inputs, kAtStart, kAtFinish};
-ghost use Rattle.march.specs.March.{reachesTo, pipeOf, laidOf, LaidPipe, Lent, old, flowSums, constantSums};
+ghost use Rattle.march.specs.March.{laidOf, LaidPipe, Lent, old, flowSums, constantSums};
 use super::laid::Laid;
 
 // R of a reach.
 fn friction_at(job: &[u8], r: usize) -> f64
-    requires { ⌜ (Accepted (now job)) × (r < reachesTo (pipeOf (now job)) (pipeCount (pipeTable (now job)))) ⌝ }
+    requires { ⌜ (Accepted (now job)) × (r < reachesOf (jobOf (now job) .pipes)) ⌝ }
     ensures { λ x. ⌜ x ≡ frictionAt (jobOf (now (job .entry))) r ⌝ }
 {
     job::values::r_at(job::pairs::table(job, 2), r)
