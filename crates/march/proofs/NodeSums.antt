@@ -48,19 +48,20 @@ sums-none a b = refl
 
 -- with the ends of the next pipe l
 pub sums-more :
-    (job : List ℕ) (ok : Accepted job) (l : Laid) (is : LaidPipe job l) (a b : Laid → Float) {sums : List Float} {x y : Float}
-    → sums ≡ nodeSums a b (take (is .number) (laid (jobOf job))) → x ≡ a l → y ≡ b l
-    → set (set sums (l .pipe .start) (getD sums (l .pipe .start) nan ⊞ x)) (l .pipe .finish) (getD sums (l .pipe .finish) nan ⊞ y)
-    ≡ nodeSums a b (take (is .number + 1) (laid (jobOf job)))
+    (job : List ℕ) (ok : Accepted job) (l : Laid) (is : LaidPipe job l) (a b : Laid → Float) {sums next : List Float} {x y : Float}
+    → sums ≡ nodeSums a b (take (is .number) (laid (jobOf job)))
+    → next ≡ set (set sums (l .pipe .start) (getD sums (l .pipe .start) nan ⊞ x)) (l .pipe .finish) (getD sums (l .pipe .finish) nan ⊞ y)
+    → x ≡ a l → y ≡ b l → next ≡ nodeSums a b (take (is .number + 1) (laid (jobOf job)))
 unfolding nodeSums withPipe
-sums-more job ok l is a b {x = x} {y = y} e ex ey =
+sums-more job ok l is a b {x = x} {y = y} e en ex ey =
     let lies = within job ok l is in
     let ls = laid (jobOf job) in
     let p = is .number in
     let g : ℕ → Float = λ k. sumFrom zero64 (endsOf a b k (take p ls)) in
     let s = l .pipe .start in
     let t = l .pipe .finish in
-    rw (e, getD-listed 32 g s nan (lies .start-low), getD-listed 32 g t nan (lies .finish-low), set-listed 32 g s (g s ⊞ x))
+    en
+    ∙ rw (e, getD-listed 32 g s nan (lies .start-low), getD-listed 32 g t nan (lies .finish-low), set-listed 32 g s (g s ⊞ x))
     (set-listed 32 (λ k. cond (eqb s k) (g s ⊞ x) (g k)) t (g t ⊞ y)
     ∙ listed-cong 32 _ _ (λ k _. ends-apart g s t k x y (lies .apart) ∙ rw (add-one p, ex, ey) (sym (sum-next a b k ls p l zero64 (laid-pipe job l is)))))
 

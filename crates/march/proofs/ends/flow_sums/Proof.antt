@@ -1,5 +1,5 @@
 -- `march::ends::flow_sums` meets its contract: after p pipes the row has the sums over the first p laid pipes. Assumes nothing.
-use mathlib.Core.Path.{_≡_, _∙_}
+use mathlib.Core.Path.{_≡_}
 use Prim.Native.Nat.{_-_, _<_, _≤_}
 use native.Mathlib.Omega.{arith}
 use borrow.Author.Needs.{needs}
@@ -57,8 +57,7 @@ loop-again c =
     let inv = d .before .before .loop .inv in (
       search needs,
       walk-more _ _ (inv .1) _ (d .pipe-at .ensures) (here (d .before)),
-      c .before .before .add-ends .ensures
-          ∙ sums-more _ (d .before .before .before .before .before .before .before .pre .accepted) _ (pipe d) _ _ (inv .2) (k .before .k-at-start .ensures) (k .k-at-finish .ensures),
+      sums-more _ (d .before .before .before .before .before .before .before .pre .accepted) _ (pipe d) _ _ (inv .2) (c .before .before .add-ends .ensures) (k .before .k-at-start .ensures) (k .k-at-finish .ensures),
     )
 
 returns : tie.Need-returns Inv-loop μ-loop

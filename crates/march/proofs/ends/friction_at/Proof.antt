@@ -1,4 +1,4 @@
--- `march::ends::friction_at` meets its contract. Assumes nothing.
+-- `march::ends::friction_at` meets its contract: an accepted job has an R in table 3 for each reach. Assumes nothing.
 use mathlib.Core.Path.{_∙_}
 use native.Mathlib.Omega.{arith}
 use borrow.Author.Needs.{needs}
