@@ -31,7 +31,7 @@ module _ (new : HeadFlow) (old : Point) where
 module _ (j : Job) (initial : List ℕ) (floors : (s : ℕ) → s < sections j → floorIn initial s ≡ floorAt j s) where
   pub scan-is :
       (heads flows : List Float) (st : State) → ((s : ℕ) → s < sections j → entry heads s ≡ pointAt st s .head)
-      → ((s : ℕ) → s < sections j → entry flows s ≡ pointAt st s .flow) → firstFault initial heads flows (sections j) ≡ scan j st
+      → ((s : ℕ) → s < sections j → entry flows s ≡ pointAt st s .flow) → firstFault initial (sections j) heads flows ≡ scan j st
   unfolding firstFault faultAt scan
   scan-is heads flows st h q =
       first-cong earlier none (sections j) _ _ (λ s l.
