@@ -44,10 +44,10 @@ module _ (job : List ℕ) (n m : ℕ) (r : Rows) (ready : Ready job n r) (a b : 
 
   -- the envelopes after it
   abbrev raise : ℕ → Float
-  raise = raisedAt (r row.highest) a
+  raise = raisedAt a (r row.highest)
 
   abbrev lower : ℕ → Float
-  lower = loweredAt (r row.lowest) a
+  lower = loweredAt a (r row.lowest)
 
   -- the new heads and flows taken over into rows that are the lent ones past the count, envelopes with them
   module _ (h q : List Float) {heads flows highest lowest : List Float} (lh : sections j ≤ length h) (lq : sections j ≤ length q)
@@ -99,7 +99,7 @@ module _ (job : List ℕ) (n m : ℕ) (r : Rows) (ready : Ready job n r) (a b : 
       (filled-at raise (r row.highest) refl (ready .count) (long row.highest))
       (filled-at lower (r row.lowest) refl (ready .count) (long row.lowest))
 
-  module _ (found : Scan) (e : foundFault found ≡ firstFault (initialTable job) a b n) where
+  module _ (found : Scan) (e : foundFault found ≡ firstFault (initialTable job) n a b) where
     fault-is : foundFault found ≡ scan j new
     fault-is = e ∙ scanned job n (m + 1) r ready a b ea eb
 
@@ -132,7 +132,7 @@ module _ (job : List ℕ) (n m : ℕ) (r : Rows) (ready : Ready job n r) (a b : 
     module _ (go-on : stops found ≡ false) (c d : List Float)
         (ec : c ≡ fill (λ s. newSection job (m + 1 + 1) a b s .head) (r row.heads) 0 (sections (jobOf job)))
         (ed : d ≡ fill (λ s. newSection job (m + 1 + 1) a b s .flow) (r row.flows) 0 (sections (jobOf job)))
-        (second : Scan) (e₂ : foundFault second ≡ firstFault (initialTable job) c d n) where
+        (second : Scan) (e₂ : foundFault second ≡ firstFault (initialTable job) n c d) where
       fault₂-is : foundFault second ≡ scan j (advanced j (m + 1 + 1) new)
       unfolding between
       fault₂-is = e₂ ∙ scanned job n (m + 1 + 1) between ready-between c d ec ed ∙ ap (λ (st : State). scan j (advanced j (m + 1 + 1) st)) state-between
@@ -157,17 +157,17 @@ module _ (job : List ℕ) (n m : ℕ) (r : Rows) (ready : Ready job n r) (a b : 
 
       -- neither finds one
       pub two-done : {highest lowest : List Float} → stops second ≡ false
-          → highest ≡ fill (raisedTwiceAt (r row.highest) a c) (r row.highest) 0 n → lowest ≡ fill (loweredTwiceAt (r row.lowest) a c) (r row.lowest) 0 n
+          → highest ≡ fill (raisedTwiceAt a c (r row.highest)) (r row.highest) 0 n → lowest ≡ fill (loweredTwiceAt a c (r row.lowest)) (r row.lowest) 0 n
           → Runs job m 2 r (gathered c d highest lowest a b) record { steps = m + 2; found = second }
       unfolding between raisedAt loweredAt raisedTwiceAt loweredTwiceAt
       two-done {highest} {lowest} s eu el =
           let last : stateIn j (gathered c d highest lowest a b) ≡ advanced j (m + 1 + 1) (stateIn j between) =
           state-taken job n (m + 1 + 1) between ready-between c d ec ed (gathered c d highest lowest a b) (λ s l. refl) (λ s l. refl)
           (λ s l.
-          filled-at (raisedTwiceAt (r row.highest) a c) (r row.highest) eu (ready .count) (long row.highest) s l
+          filled-at (raisedTwiceAt a c (r row.highest)) (r row.highest) eu (ready .count) (long row.highest) s l
           ∙ ap (λ (x : Float). raised x (entry c s)) (sym (filled-at raise (r row.highest) refl (ready .count) (long row.highest) s l)))
           (λ s l.
-          filled-at (loweredTwiceAt (r row.lowest) a c) (r row.lowest) el (ready .count) (long row.lowest) s l
+          filled-at (loweredTwiceAt a c (r row.lowest)) (r row.lowest) el (ready .count) (long row.lowest) s l
           ∙ ap (λ (x : Float). lowered x (entry c s)) (sym (filled-at lower (r row.lowest) refl (ready .count) (long row.lowest) s l))) in
           let count : m + 2 ≡ m + 1 + 1 = omega arith in
           record {

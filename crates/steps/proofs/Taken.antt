@@ -76,10 +76,10 @@ module _ (job : List ℕ) (n step : ℕ) (r : Rows) (ready : Ready job n r) wher
     new-flow : (s : ℕ) → s < sections j → entry b s ≡ new s .flow
     new-flow s h = filled-at _ (r spareFlows) eb refl (ready-enough ready spareFlows) s h ∙ ap (λ (x : HeadFlow). x .flow) (section-is s)
 
-    pub scanned : firstFault (initialTable job) a b n ≡ scan j (advanced j step st)
+    pub scanned : firstFault (initialTable job) n a b ≡ scan j (advanced j step st)
     unfolding newPoint updated
     scanned =
-        ap (firstFault (initialTable job) a b) (ready .count)
+        ap (λ (k : ℕ). firstFault (initialTable job) k a b) (ready .count)
         ∙ scan-is j (initialTable job) (floor-read job (ready .accepted)) a b (advanced j step st)
         (λ s h. new-head s h ∙ sym (ap (λ (p : Point). p .head) (advanced-at j step st s h)))
         (λ s h. new-flow s h ∙ sym (ap (λ (p : Point). p .flow) (advanced-at j step st s h)))
@@ -87,8 +87,8 @@ module _ (job : List ℕ) (n step : ℕ) (r : Rows) (ready : Ready job n r) wher
     -- rows that have taken them over, envelopes included
     module _ (after : Rows)
         (eh : (s : ℕ) → s < sections j → entry (after heads) s ≡ entry a s) (eq : (s : ℕ) → s < sections j → entry (after flows) s ≡ entry b s)
-        (eu : (s : ℕ) → s < sections j → entry (after highest) s ≡ raisedAt (r highest) a s)
-        (el : (s : ℕ) → s < sections j → entry (after lowest) s ≡ loweredAt (r lowest) a s) where
+        (eu : (s : ℕ) → s < sections j → entry (after highest) s ≡ raisedAt a (r highest) s)
+        (el : (s : ℕ) → s < sections j → entry (after lowest) s ≡ loweredAt a (r lowest) s) where
       point : (s : ℕ) → s < sections j → pointIn after s ≡ newPoint (laid j) (inputs j step) st s
       unfolding pointIn newPoint updated raisedAt loweredAt raised lowered
       point s h =

@@ -1,12 +1,13 @@
 // One step or two over the lent rows.
 ghost use mathlib.Core.Path.{_≡_};
-ghost use Prim.Native.Nat.{ℕ, _+_, _≤_};
+ghost use Prim.Native.Nat.{_+_, _≤_};
 ghost use lib.ListN.{length};
 ghost use Rattle.loops.specs.Loops.{fill};
 ghost use Rattle.job.specs.Job.{sections};
 ghost use Rattle.job.specs.Format.{jobOf, initialTable};
 ghost use Rattle.rows.specs.Rows.{entry};
 ghost use Rattle.rows.specs.Faults.{foundFault, firstFault};
+ghost use Rattle.sweep.specs.Sweep.{Written};
 ghost use Rattle.march.specs.March.{Lent, constantSums, newSection};
 ghost use Rattle.recurrence.specs.Slices.{lent, before, after};
 ghost use Rattle.steps.specs.Steps as inner;
@@ -37,15 +38,13 @@ fn work_out(
 ) -> Scan
     requires { ⌜ (Lent (now job) (now heads) (now flows)) × (1 ≤ step) × (now t ≡ constantSums (now job)) ⌝ }
     requires { ⌜ (n ≡ sections (jobOf (now job))) × (n ≤ length (now «new_heads»)) × (n ≤ length (now «new_flows»)) ⌝ }
-    ensures { λ found. ⌜ (let count = sections (jobOf (now (job .entry))) in
-        let new = newSection (now (job .entry)) step (now (heads .entry)) (now (flows .entry)) in
-        (now («new_heads» .exit) ≡ fill (λ (s : ℕ). new s .head) (now («new_heads» .entry)) 0 count)
-        × (now («new_flows» .exit) ≡ fill (λ (s : ℕ). new s .flow) (now («new_flows» .entry)) 0 count)
+    ensures { λ found. ⌜ (Written (newSection (now (job .entry)) step (now (heads .entry)) (now (flows .entry)))
+        0 (sections (jobOf (now (job .entry)))) «new_heads» «new_flows»)
         × (foundFault found
-        ≡ firstFault (initialTable (now (job .entry))) (now («new_heads» .exit)) (now («new_flows» .exit)) n)) ⌝ }
+        ≡ firstFault (initialTable (now (job .entry))) n (now («new_heads» .exit)) (now («new_flows» .exit))) ⌝ }
 {
     march::pipes::work_out(job, step, t, heads, flows, new_heads, new_flows);
-    rows::scan(new_heads, new_flows, job::pairs::table(job, 3), n)
+    rows::scan(job::pairs::table(job, 3), n, new_heads, new_flows)
 }
 
 // The state out of the spare rows into the rows of heads and flows.
@@ -55,8 +54,8 @@ fn take_over(n: usize, new_heads: &[f64], new_flows: &[f64], heads: &mut [f64], 
     ensures { λ _. ⌜ (now (heads .exit) ≡ fill (entry (now («new_heads» .entry))) (now (heads .entry)) 0 n)
         × (now (flows .exit) ≡ fill (entry (now («new_flows» .entry))) (now (flows .entry)) 0 n) ⌝ }
 {
-    rows::copy_row(new_heads, heads, n);
-    rows::copy_row(new_flows, flows, n);
+    rows::copy_row(n, new_heads, heads);
+    rows::copy_row(n, new_flows, flows);
 }
 
 // The step after `done` steps of a job of n sections; t has T of each node.
@@ -83,7 +82,7 @@ pub fn one_step(
     if stops(found) {
         return Ended { steps: done, found };
     }
-    rows::envelopes::over_one(highest, lowest, spare_heads, n);
+    rows::envelopes::over_one(n, spare_heads, highest, lowest);
     take_over(n, spare_heads, spare_flows, heads, flows);
     Ended {
         steps: done + 1,
@@ -121,14 +120,14 @@ pub fn two_steps(
     }
     let second = work_out(job, n, step + 1, t, spare_heads, spare_flows, heads, flows);
     if stops(second) {
-        rows::envelopes::over_one(highest, lowest, spare_heads, n);
+        rows::envelopes::over_one(n, spare_heads, highest, lowest);
         take_over(n, spare_heads, spare_flows, heads, flows);
         return Ended {
             steps: done + 1,
             found: second,
         };
     }
-    rows::envelopes::over_two(highest, lowest, spare_heads, heads, n);
+    rows::envelopes::over_two(n, spare_heads, heads, highest, lowest);
     Ended {
         steps: done + 2,
         found: second,

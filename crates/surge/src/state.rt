@@ -73,8 +73,8 @@ pub fn clear_spare(n: usize, spare_heads: &mut [f64], spare_flows: &mut [f64])
     ensures { λ _. ⌜ (now («spare_heads» .exit) ≡ fill (λ (s : ℕ). zero64) (now («spare_heads» .entry)) 0 n)
         × (now («spare_flows» .exit) ≡ fill (λ (s : ℕ). zero64) (now («spare_flows» .entry)) 0 n) ⌝ }
 {
-    rows::clear_row(spare_heads, n);
-    rows::clear_row(spare_flows, n);
+    rows::clear_row(n, spare_heads);
+    rows::clear_row(n, spare_flows);
 }
 
 // Question 22; a and b stand for the spare rows, which it does not ask about.
@@ -94,5 +94,5 @@ pub fn acceptable(
         (now (highest .entry)) (now (lowest .entry)) a b))) ⌝ }
 {
     let initial = job::pairs::table(job, 3);
-    rows::acceptable(heads, flows, highest, lowest, initial, n)
+    rows::acceptable(initial, n, heads, flows, highest, lowest)
 }

@@ -22,13 +22,13 @@ returns c =
     let w = c .before .before .before .before .before .before in
     let s = begin w in
     let e = w .work-out .ensures in
-    one-stops _ _ _ _ (s .pre .0) _ _ (e .0) (e .1) _ (e .2) (sym (c .before .stops .ensures) ∙ c .if1 .taken)
+    one-stops _ _ _ _ (s .pre .0) _ _ (e .0 .0) (e .0 .1) _ (e .1) (sym (c .before .stops .ensures) ∙ c .if1 .taken)
 
 over-one-requires : tie.Need-over-one-requires
 over-one-requires c κs =
     let w = c .before .before .before .before .before .before .before .before .before in
     let l = ready-long (begin w .pre .0) in
-    (l highest refl, l lowest refl, omega (arith, l spareHeads refl, w .work-out .kept .1 .1 .1 .1 .1 .1 .0))
+    (omega (arith, l spareHeads refl, w .work-out .kept .1 .1 .1 .1 .1 .1 .0), l highest refl, l lowest refl)
 
 take-over-requires : tie.Need-take-over-requires
 take-over-requires c κs =
@@ -47,7 +47,7 @@ returns-2 c =
     let e = w .work-out .ensures in
     let o = c .before .before .before .before .before .before .before .before .before .before .before .before .before .over-one .ensures in
     let t = c .before .before .before .before .take-over .ensures in
-    one-done _ _ _ _ (s .pre .0) _ _ (e .0) (e .1) _ (e .2) (sym (c .before .before .before .before .before .before .before .before .before .before .before .before .before .before .before .before .before .before .stops .ensures) ∙ c .before .before .before .before .before .before .before .before .before .before .before .before .before .before .before .before .before .if1 .left) (t .0) (t .1) (o .0) (o .1)
+    one-done _ _ _ _ (s .pre .0) _ _ (e .0 .0) (e .0 .1) _ (e .1) (sym (c .before .before .before .before .before .before .before .before .before .before .before .before .before .before .before .before .before .before .stops .ensures) ∙ c .before .before .before .before .before .before .before .before .before .before .before .before .before .before .before .before .before .if1 .left) (t .0) (t .1) (o .0) (o .1)
 
 pub one-step-spec : {M : Type 1} → statement M
 one-step-spec =

@@ -22,7 +22,7 @@ returns c =
     let w = c .before .before .before .before .before .before in
     let s = begin w in
     let e = w .work-out .ensures in
-    two-stop-first _ _ _ _ (s .pre .0) _ _ (e .0) (e .1) _ (e .2) (sym (c .before .stops .ensures) ∙ c .if1 .taken)
+    two-stop-first _ _ _ _ (s .pre .0) _ _ (e .0 .0) (e .0 .1) _ (e .1) (sym (c .before .stops .ensures) ∙ c .if1 .taken)
 
 work-out-requires-2 : tie.Need-work-out-requires-2
 work-out-requires-2 c κs =
@@ -43,7 +43,7 @@ over-one-requires : tie.Need-over-one-requires
 over-one-requires c κs =
     let w = first (c .before .before .before .before .before .before .before .before .before) in
     let l = ready-long (begin w .pre .0) in
-    (l highest refl, l lowest refl, omega (arith, l spareHeads refl, w .work-out .kept .1 .1 .1 .1 .1 .1 .0))
+    (omega (arith, l spareHeads refl, w .work-out .kept .1 .1 .1 .1 .1 .1 .0), l highest refl, l lowest refl)
 
 take-over-requires : tie.Need-take-over-requires
 take-over-requires c κs =
@@ -67,7 +67,7 @@ returns-2 c =
     let f = v .work-out2 .ensures in
     let o = c .before .before .before .before .before .before .before .before .before .before .before .before .before .over-one .ensures in
     let t = c .before .before .before .before .take-over .ensures in
-    two-stop-second _ _ _ _ (s .pre .0) _ _ (e .0) (e .1) _ (e .2) (sym (g .before .stops .ensures) ∙ g .if1 .left) _ _ (f .0) (f .1) _ (f .2)
+    two-stop-second _ _ _ _ (s .pre .0) _ _ (e .0 .0) (e .0 .1) _ (e .1) (sym (g .before .stops .ensures) ∙ g .if1 .left) _ _ (f .0 .0) (f .0 .1) _ (f .1)
     (sym (c .before .before .before .before .before .before .before .before .before .before .before .before .before .before .before .before .before .before .stops2 .ensures) ∙ c .before .before .before .before .before .before .before .before .before .before .before .before .before .before .before .before .before .if2 .taken) (t .0) (t .1) (o .0) (o .1)
 
 over-two-requires : tie.Need-over-two-requires
@@ -77,7 +77,7 @@ over-two-requires c κs =
     let l = ready-long (begin w .pre .0) in
     let k = w .work-out .kept .1 .1 .1 .1 .1 .1 in
     let g = v .work-out2 .kept .1 .1 .1 .1 .1 .1 in
-    (l highest refl, l lowest refl, omega (arith, l spareHeads refl, k .0), omega (arith, l heads refl, g .0))
+    (omega (arith, l spareHeads refl, k .0), omega (arith, l heads refl, g .0), l highest refl, l lowest refl)
 
 add-t14 : tie.Need-add-t14
 add-t14 c = let s = c .before .before .before .before .before .before .before .before .before .before .before .before .before .before .before .before .before .before .before .before .before .before .before .before .before .before .before .before .before .before .before .before .before .before .before .before .before .before in omega (arith, s .pre .1)
@@ -91,7 +91,7 @@ returns-3 c =
     let g = go-on v in
     let f = v .work-out2 .ensures in
     let t = c .before .before .before .before .over-two .ensures in
-    two-done _ _ _ _ (s .pre .0) _ _ (e .0) (e .1) _ (e .2) (sym (g .before .stops .ensures) ∙ g .if1 .left) _ _ (f .0) (f .1) _ (f .2)
+    two-done _ _ _ _ (s .pre .0) _ _ (e .0 .0) (e .0 .1) _ (e .1) (sym (g .before .stops .ensures) ∙ g .if1 .left) _ _ (f .0 .0) (f .0 .1) _ (f .1)
     (sym (c .before .before .before .before .before .before .before .before .before .before .stops2 .ensures) ∙ c .before .before .before .before .before .before .before .before .before .if2 .left) (t .0) (t .1)
 
 pub two-steps-spec : {M : Type 1} → statement M
