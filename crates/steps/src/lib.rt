@@ -70,8 +70,9 @@ pub fn run(
             spare_flows,
         );
     }
+    let steps = done + i;
     Ended {
-        steps: done + i,
+        steps,
         found: Scan::Sound,
     }
 }

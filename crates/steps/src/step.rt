@@ -77,7 +77,8 @@ pub fn one_step(
         (before heads flows highest lowest «spare_heads» «spare_flows»)
         (after heads flows highest lowest «spare_heads» «spare_flows») r ⌝ }
 {
-    let step = (done + 1) as usize;
+    let after = done + 1;
+    let step = after as usize;
     let found = work_out(job, n, step, t, heads, flows, spare_heads, spare_flows);
     if stops(found) {
         return Ended { steps: done, found };
@@ -85,7 +86,7 @@ pub fn one_step(
     rows::envelopes::over_one(n, spare_heads, highest, lowest);
     take_over(n, spare_heads, spare_flows, heads, flows);
     Ended {
-        steps: done + 1,
+        steps: after,
         found,
     }
 }
@@ -110,7 +111,10 @@ pub fn two_steps(
         (before heads flows highest lowest «spare_heads» «spare_flows»)
         (after heads flows highest lowest «spare_heads» «spare_flows») r ⌝ }
 {
-    let step = (done + 1) as usize;
+    let after_one = done + 1;
+    let after_two = done + 2;
+    let step = after_one as usize;
+    let next = step + 1;
     let first = work_out(job, n, step, t, heads, flows, spare_heads, spare_flows);
     if stops(first) {
         return Ended {
@@ -118,18 +122,18 @@ pub fn two_steps(
             found: first,
         };
     }
-    let second = work_out(job, n, step + 1, t, spare_heads, spare_flows, heads, flows);
+    let second = work_out(job, n, next, t, spare_heads, spare_flows, heads, flows);
     if stops(second) {
         rows::envelopes::over_one(n, spare_heads, highest, lowest);
         take_over(n, spare_heads, spare_flows, heads, flows);
         return Ended {
-            steps: done + 1,
+            steps: after_one,
             found: second,
         };
     }
     rows::envelopes::over_two(n, spare_heads, heads, highest, lowest);
     Ended {
-        steps: done + 2,
+        steps: after_two,
         found: second,
     }
 }

@@ -18,47 +18,48 @@ abbrev μ-loop : tie.MeasureT-loop
 loop-holds : tie.Need-loop-holds Inv-loop μ-loop
 loop-holds c = way-none _ _ _ _
 
+-- where the call starts; the turn of the loop at which two steps were done, and their scan asked; the loop's end before the last step
 abbrev begin : tie.At-loop Inv-loop μ-loop → tie.Start Inv-loop μ-loop
 begin c = c .before .before .before .before .before .before .before .before
 
--- the loop where two steps are done, and where the last is
-abbrev turn : tie.After-two-steps Inv-loop μ-loop → tie.At-loop Inv-loop μ-loop
-turn c = c .before .before .before .before .before .before .before .before
+abbrev turn : tie.After-two-steps Inv-loop μ-loop → tie.In-loop Inv-loop μ-loop
+turn c = c .before .before .before .before .before .before .before
+
+abbrev two : tie.After-stops Inv-loop μ-loop → tie.After-two-steps Inv-loop μ-loop
+two c = c .before .before .before .before .before .before .before .before .before .before .before .before .before
+
+abbrev last : tie.After-one-step Inv-loop μ-loop → tie.Then2 Inv-loop μ-loop
+last c = c .before .before .before .before .before .before .before
 
 two-steps-requires : tie.Need-two-steps-requires Inv-loop μ-loop
 two-steps-requires c κs =
-    let a = c .before .before .before .before .before .before .before in
-    let s = begin a in
-    let test = c .before .before .before .before .before .before .loop-test .taken in
-    (way-ready _ _ _ _ (a .loop .inv) (s .pre .0), omega (arith, s .pre .1, test), s .pre .2)
+    let in-loop = c .before .before .before .before .before .before in
+    let s = begin (in-loop .before) in
+    (way-ready _ _ _ _ (in-loop .before .loop .inv) (s .pre .0), omega (arith, s .pre .1, in-loop .loop-test .taken), s .pre .2)
 
 loop-again : tie.Need-loop-again Inv-loop μ-loop
 loop-again c =
-    let v = c .before .before .before .before .before .before .before .before .before .before .before .before .before .before in
-    let test = c .before .before .before .before .before .before .before .before .before .before .before .before .before .before .before .before .before .before .before .before .before .loop-test .taken in
-    way-next _ _ _ _ (turn v .loop .inv) (omega (arith, test)) (v .two-steps .kept .1 .1 .1 .1)
+    let v = two (c .before) in
+    way-next _ _ _ _ (turn v .before .loop .inv) (omega (arith, turn v .loop-test .taken)) (v .two-steps .kept .1 .1 .1 .1)
     (sym (c .before .stops .ensures) ∙ c .if1 .left) (v .two-steps .ensures)
 
 returns : tie.Need-returns Inv-loop μ-loop
 returns c =
-    let v = c .before .before .before .before .before .before .before .before .before .before .before .before .before .before in
-    let test = c .before .before .before .before .before .before .before .before .before .before .before .before .before .before .before .before .before .before .before .before .before .loop-test .taken in
-    way-stop _ _ _ _ (turn v .loop .inv) (omega (arith, test)) (sym (c .before .stops .ensures) ∙ c .if1 .taken) (v .two-steps .ensures)
+    let v = two (c .before) in
+    way-stop _ _ _ _ (turn v .before .loop .inv) (omega (arith, turn v .loop-test .taken)) (sym (c .before .stops .ensures) ∙ c .if1 .taken) (v .two-steps .ensures)
 
 one-step-requires : tie.Need-one-step-requires Inv-loop μ-loop
 one-step-requires c κs =
-    let a = c .before .before .before .before .before .before .before .before in
+    let over = c .before .before .before .before .before .before in
+    let a = over .before .before in
     let s = begin a in
-    let test = c .before .before .before .before .before .before .if2 .taken in
-    (way-ready _ _ _ _ (a .loop .inv) (s .pre .0), omega (arith, s .pre .1, test), s .pre .2)
+    (way-ready _ _ _ _ (a .loop .inv) (s .pre .0), omega (arith, s .pre .1, over .if2 .taken), s .pre .2)
 
 returns-2 : tie.Need-returns-2 Inv-loop μ-loop
 returns-2 c =
     let v = c .before .before .before .before .before .before .before .before .before .before .before .before in
-    let a = c .before .before .before .before .before .before .before .before .before .before .before .before .before .before .before .before .before .before .before .before .before in
-    let test = c .before .before .before .before .before .before .before .before .before .before .before .before .before .before .before .before .before .before .before .if2 .taken in
-    let over = c .before .before .before .before .before .before .before .before .before .before .before .before .before .before .before .before .before .before .before .before .loop-test .left in
-    way-last _ _ _ _ (a .loop .inv) (omega (arith, test, over)) (v .one-step .ensures)
+    let over = last v in
+    way-last _ _ _ _ (over .before .before .loop .inv) (omega (arith, over .if2 .taken, over .before .loop-test .left)) (v .one-step .ensures)
 
 returns-3 : tie.Need-returns-3 Inv-loop μ-loop
 returns-3 c = way-done _ _ _ _ (c .before .before .loop .inv) (c .if2 .left)

@@ -14,21 +14,25 @@ ran c =
     let l = c .run .last .1 .1 .1 .1 .1 in
     gathered (l .0) (l .1 .0) (l .1 .1 .0) (l .1 .1 .1 .0) (l .1 .1 .1 .1 .0) (l .1 .1 .1 .1 .1 .0)
 
+-- where the call starts, and where the run has ended
 abbrev begin : tie.After-run → tie.Start
 begin c = c .before .before .before .before .before .before .before .before .before .before .before .before .before .before .before .before
+
+abbrev ended : tie.After-clear-spare-arg2 → tie.After-run
+ended c = c .before .before .before .before .before .before .before .before .before .before .before .before .before .before
 
 ready : (c : tie.After-run) → Ready (begin c .args .job .now) (begin c .args .n) (ran c)
 ready c = ready-kept (ran c) (c .run .kept .1 .1 .1 .1 .1) (begin c .pre .0)
 
 clear-spare-requires : tie.Need-clear-spare-requires
-clear-spare-requires c κs = let l = ready-long (ready (c .before .before .before .before .before .before .before .before .before .before .before .before .before .before)) in (l spareHeads refl, l spareFlows refl)
+clear-spare-requires c κs = let l = ready-long (ready (ended c)) in (l spareHeads refl, l spareFlows refl)
 
 returns : tie.Need-returns
 returns c =
-    let d = c .before .before .before .before .before .before .before .before .before .before .before .before .before .before .before .before .before .before .before .before in
-    let s = begin d in
-    let e = c .before .before .before .before .before .clear-spare .ensures in
-    run-left _ _ _ (s .pre .0 .count) (ran d) (d .run .ensures .rest) (ready-enough (ready d)) _ (d .run .result) (d .run .ensures .result-is) _ (c .answer-of .ensures _) (e .0) (e .1)
+    let e = c .before .before .before .before .before in
+    let d = ended (e .before) in
+    run-left _ _ _ (begin d .pre .0 .count) (ran d) (d .run .ensures .rest) (ready-enough (ready d)) _ (d .run .result) (d .run .ensures .result-is) _ (c .answer-of .ensures _)
+    (e .clear-spare .ensures .0) (e .clear-spare .ensures .1)
 
 pub carry-on-spec : {M : Type 1} → statement M
 carry-on-spec =
