@@ -104,8 +104,8 @@ module _ (job : List ℕ) (n : ℕ) (r : Rows) (count : n ≡ sections (jobOf jo
   accepted = jobOf job
 
   -- a row filled over one that past the entries in use is as lent
-  filled-left : (st : State) (x : Row) (g : ℕ → Float) (base : List Float) {l : List Float} → n ≡ inUse accepted x → inUse accepted x ≤ length base
-      → drop (inUse accepted x) base ≡ drop (inUse accepted x) (r x) → l ≡ fill g base 0 n → listed (inUse accepted x) g ≡ holds accepted st x → l ≡ rowsOf accepted st r x
+  filled-left : (st : State) (x : Row) (g : ℕ → Float) (base : List Float) {l : List Float} {m : ℕ} → m ≡ inUse accepted x → inUse accepted x ≤ length base
+      → drop (inUse accepted x) base ≡ drop (inUse accepted x) (r x) → l ≡ fill g base 0 m → listed (inUse accepted x) g ≡ holds accepted st x → l ≡ rowsOf accepted st r x
   filled-left st x g base {l} e long rest filled h =
       row-left accepted st r x l
       (ap (take (inUse accepted x)) filled ∙ ap (λ (k : ℕ). take (inUse accepted x) (fill g base 0 k)) e ∙ take-filled (inUse accepted x) g base long ∙ h)
