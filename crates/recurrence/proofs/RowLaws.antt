@@ -19,7 +19,7 @@ use Rattle.loops.proofs.Fill.{length-fill, fill-in}
 use Rattle.job.specs.Job.{Job, sections}
 use Rattle.job.specs.Format.{listed}
 use Rattle.recurrence.specs.State.{Point, State, noPoint, pointAt}
-use Rattle.recurrence.specs.Calls.{Row, heads, flows, highest, lowest, spareHeads, spareFlows, allRows, Rows, inUse, enoughLent, pointIn, stateIn, holds, rowsOf}
+use Rattle.recurrence.specs.Calls.{Row, heads, flows, highest, lowest, allRows, Rows, inUse, enoughLent, pointIn, stateIn, holds, rowsOf}
 use Rattle.recurrence.specs.Lent.{Holds}
 use Rattle.recurrence.proofs.Tests.{both}
 use Rattle.recurrence.proofs.Listed.{length-listed, getD-listed, map-listed, listed-cong}
