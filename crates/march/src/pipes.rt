@@ -5,7 +5,7 @@ ghost use lib.ListN.{length};
 ghost use Rattle.job.specs.Job.{sections};
 ghost use Rattle.job.specs.Format.{jobOf};
 ghost use Rattle.recurrence.specs.Step.{inputs, between};
-ghost use Rattle.sweep.specs.Sweep.{Written};
+ghost use Rattle.sweep.specs.Sweep.{WrittenRows};
 ghost use Rattle.march.specs.March.{laidOf, LaidPipe, Lent, old, constantSums, newInPipe, newSection};
 use super::laid::Laid;
 use wave::HeadFlow;
@@ -22,7 +22,7 @@ fn write_inner(
     requires { ⌜ (Lent (now job) (now heads) (now flows)) × (LaidPipe (now job) (laidOf l)) ⌝ }
     requires { ⌜ (sections (jobOf (now job)) ≤ length (now «new_heads»))
         × (sections (jobOf (now job)) ≤ length (now «new_flows»)) ⌝ }
-    ensures { λ _. ⌜ Written (between (inputs (jobOf (now (job .entry))) 0)
+    ensures { λ _. ⌜ WrittenRows (between (inputs (jobOf (now (job .entry))) 0)
         (old (now (job .entry)) (now (heads .entry)) (now (flows .entry))) (laidOf l))
         (l .first + 1) (l .reaches - 1) «new_heads» «new_flows» ⌝ }
 {
@@ -78,7 +78,7 @@ fn write_pipe(
     requires { ⌜ (Lent (now job) (now heads) (now flows)) × (LaidPipe (now job) (laidOf l)) ⌝ }
     requires { ⌜ (sections (jobOf (now job)) ≤ length (now «new_heads»))
         × (sections (jobOf (now job)) ≤ length (now «new_flows»)) ⌝ }
-    ensures { λ _. ⌜ Written (newInPipe (now (job .entry)) (laidOf l) (now (nodes .entry))
+    ensures { λ _. ⌜ WrittenRows (newInPipe (now (job .entry)) (laidOf l) (now (nodes .entry))
         (now (heads .entry)) (now (flows .entry))) (l .first) (l .reaches + 1) «new_heads» «new_flows» ⌝ }
 {
     let ends = new_ends(job, l, nodes, heads, flows);
@@ -106,7 +106,7 @@ pub fn work_out(
     requires { ⌜ (Lent (now job) (now heads) (now flows)) × (1 ≤ n) × (now t ≡ constantSums (now job)) ⌝ }
     requires { ⌜ (sections (jobOf (now job)) ≤ length (now «new_heads»))
         × (sections (jobOf (now job)) ≤ length (now «new_flows»)) ⌝ }
-    ensures { λ _. ⌜ Written (newSection (now (job .entry)) n (now (heads .entry)) (now (flows .entry)))
+    ensures { λ _. ⌜ WrittenRows (newSection (now (job .entry)) n (now (heads .entry)) (now (flows .entry)))
         0 (sections (jobOf (now (job .entry)))) «new_heads» «new_flows» ⌝ }
 {
     let nodes = super::nodes::heads_at(job, n, t, heads, flows);

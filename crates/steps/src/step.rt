@@ -7,7 +7,7 @@ ghost use Rattle.job.specs.Job.{sections};
 ghost use Rattle.job.specs.Format.{jobOf, initialTable};
 ghost use Rattle.rows.specs.Rows.{entry};
 ghost use Rattle.rows.specs.Faults.{foundFault, firstFault};
-ghost use Rattle.sweep.specs.Sweep.{Written};
+ghost use Rattle.sweep.specs.Sweep.{WrittenRows};
 ghost use Rattle.march.specs.March.{Lent, constantSums, newSection};
 ghost use Rattle.recurrence.specs.Slices.{lent, before, after};
 ghost use Rattle.steps.specs.Steps as inner;
@@ -38,7 +38,7 @@ fn work_out(
 ) -> Scan
     requires { ⌜ (Lent (now job) (now heads) (now flows)) × (1 ≤ step) × (now t ≡ constantSums (now job)) ⌝ }
     requires { ⌜ (n ≡ sections (jobOf (now job))) × (n ≤ length (now «new_heads»)) × (n ≤ length (now «new_flows»)) ⌝ }
-    ensures { λ found. ⌜ (Written (newSection (now (job .entry)) step (now (heads .entry)) (now (flows .entry)))
+    ensures { λ found. ⌜ (WrittenRows (newSection (now (job .entry)) step (now (heads .entry)) (now (flows .entry)))
         0 (sections (jobOf (now (job .entry)))) «new_heads» «new_flows»)
         × (foundFault found
         ≡ firstFault (initialTable (now (job .entry))) n (now («new_heads» .exit)) (now («new_flows» .exit))) ⌝ }

@@ -12,7 +12,7 @@ use Rattle.loops.specs.Loops.{fill, allBelow}
 use Rattle.wave.specs.declared.HeadFlow.{HeadFlow}
 use Rattle.wave.specs.Wave.{fromAbove, fromBelow, inner}
 use Rattle.job.specs.Format.{rIn}
-use Rattle.recurrence.specs.Slices.{Slices}
+use Rattle.recurrence.specs.Slices.{LentSlice}
 use Rattle.sweep.specs.declared.TwoCp.{TwoCp}
 
 -- CP of section i + 1: along reach i from the section above.
@@ -40,7 +40,7 @@ pub record CutToPipe (friction : List ℕ) (heads flows newHeads newFlows : List
   pub friction-finite : allBelow (λ i. finite (rIn friction i)) (length heads - 1) ≡ true
 
 -- Two lent rows after a call: from entry `at` on the heads and the flows that f has of n sections, and every other entry as it was.
-abbrev pub Written : (ℕ → HeadFlow) → ℕ → ℕ → Slices → Slices → Type 0
-Written f at n heads flows =
+abbrev pub WrittenRows : (ℕ → HeadFlow) → ℕ → ℕ → LentSlice → LentSlice → Type 0
+WrittenRows f at n heads flows =
     (heads .exit .now ≡ fill (λ i. f i .head) (heads .entry .now) at n)
     × (flows .exit .now ≡ fill (λ i. f i .flow) (flows .entry .now) at n)

@@ -57,7 +57,7 @@ fn write_pair(
     requires { ⌜ (i + 4 < length (now heads)) × (cp ≡ pipe.twoCpAt (now friction) s (now heads) (now flows) i) ⌝ }
     ensures { λ next. ⌜ (let new = pipe.innerAt (now (friction .entry)) s (now (heads .entry)) (now (flows .entry)) in
         (next ≡ pipe.twoCpAt (now (friction .entry)) s (now (heads .entry)) (now (flows .entry)) (i + 2))
-        × pipe.Written (λ (k : ℕ). new (i + k)) (1 + i) 2 «new_heads» «new_flows») ⌝ }
+        × pipe.WrittenRows (λ (k : ℕ). new (i + k)) (1 + i) 2 «new_heads» «new_flows») ⌝ }
 {
     let h0 = heads[i + 2];
     let q0 = flows[i + 2];
@@ -87,7 +87,7 @@ fn sweep_pairs(
 ) -> usize
     requires { ⌜ pipe.CutToPipe (now friction) (now heads) (now flows) (now «new_heads») (now «new_flows») ⌝ }
     ensures { λ d. ⌜ (let new = pipe.innerAt (now (friction .entry)) s (now (heads .entry)) (now (flows .entry)) in
-        (d ≤ length (now (heads .entry)) - 2) × pipe.Written new 1 d «new_heads» «new_flows») ⌝ }
+        (d ≤ length (now (heads .entry)) - 2) × pipe.WrittenRows new 1 d «new_heads» «new_flows») ⌝ }
 {
     if heads.len() < 5 {
         return 0;
@@ -118,7 +118,7 @@ fn sweep_rest(
     requires { ⌜ from ≤ length (now heads) - 2 ⌝ }
     ensures { λ _. ⌜ (let new = pipe.innerAt (now (friction .entry)) s (now (heads .entry)) (now (flows .entry)) in
         let left = length (now (heads .entry)) - 2 - from in
-        pipe.Written (λ (k : ℕ). new (from + k)) (1 + from) left «new_heads» «new_flows») ⌝ }
+        pipe.WrittenRows (λ (k : ℕ). new (from + k)) (1 + from) left «new_heads» «new_flows») ⌝ }
 {
     let mut i = from;
     while i + 2 < heads.len() {
@@ -140,7 +140,7 @@ pub fn sweep(
     new_flows: &mut [f64],
 )
     requires { ⌜ pipe.CutToPipe (now friction) (now heads) (now flows) (now «new_heads») (now «new_flows») ⌝ }
-    ensures { λ _. ⌜ pipe.Written (pipe.innerAt (now (friction .entry)) s (now (heads .entry)) (now (flows .entry)))
+    ensures { λ _. ⌜ pipe.WrittenRows (pipe.innerAt (now (friction .entry)) s (now (heads .entry)) (now (flows .entry)))
         1 (length (now (heads .entry)) - 2) «new_heads» «new_flows» ⌝ }
 {
     let done = sweep_pairs(friction, s, heads, flows, new_heads, new_flows);

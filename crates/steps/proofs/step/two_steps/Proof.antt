@@ -53,9 +53,10 @@ work-out-requires-2 c κs =
 
 over-one-requires : tie.Need-over-one-requires
 over-one-requires c κs =
-    let w = first (go-on (stopped (c .before .before .before))) in
+    let v = stopped (c .before .before .before) in
+    let w = first (go-on v) in
     let l = ready-long (begin (w .before) .pre .0) in
-    (omega (arith, l spareHeads refl, w .work-out .kept .1 .1 .1 .1 .1 .1 .0), l highest refl, l lowest refl)
+    (omega (arith, l spareHeads refl, l heads refl, w .work-out .kept .1 .1 .1 .1 .1 .1 .0, v .work-out2 .kept .1 .1 .1 .1 .1 .1 .0), l highest refl, l lowest refl)
 
 take-over-requires : tie.Need-take-over-requires
 take-over-requires c κs =
