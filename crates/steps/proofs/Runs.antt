@@ -138,9 +138,9 @@ module _ (job : List ℕ) (done count : ℕ) (r : Rows) where
     unfolding stops
     on next = runs-more job done r (u .runs) refl refl next
 
-    pub way-next : {b : Rows} {k : ℕ} {ended : Ended} → i + k ≤ count → SameSizes a b → stops (ended .found) ≡ false → Runs job (done + i) k a b ended → Underway job done count (i + k) r b
+    pub way-next : {b : Rows} {k : ℕ} {ended : Ended} → Runs job (done + i) k a b ended → i + k ≤ count → SameSizes a b → stops (ended .found) ≡ false → Underway job done count (i + k) r b
     unfolding resultOf
-    way-next {b} {k} {ended} h z s next =
+    way-next {b} {k} {ended} next h z s =
         let all : ended .steps ≡ done + (i + k) = steps-all (jobOf job) (done + i) k (stateIn (jobOf job) a) (stateIn (jobOf job) b) ended (next .result-is) s ∙ (let e : done + i + k ≡ done + (i + k) = omega arith in e) in
         record {
           within = h;

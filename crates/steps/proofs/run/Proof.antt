@@ -40,8 +40,10 @@ two-steps-requires c κs =
 loop-again : tie.Need-loop-again Inv-loop μ-loop
 loop-again c =
     let v = two (c .before) in
-    way-next _ _ _ _ (turn v .before .loop .inv) (omega (arith, turn v .loop-test .taken)) (v .two-steps .kept .1 .1 .1 .1)
-    (sym (c .before .stops .ensures) ∙ c .if1 .left) (v .two-steps .ensures)
+    let underway =
+    way-next _ _ _ _ (turn v .before .loop .inv) (v .two-steps .ensures) (omega (arith, turn v .loop-test .taken)) (v .two-steps .kept .1 .1 .1 .1)
+    (sym (c .before .stops .ensures) ∙ c .if1 .left) in
+    underway
 
 returns : tie.Need-returns Inv-loop μ-loop
 returns c =
