@@ -4,7 +4,8 @@ ghost use mathlib.Core.Path.{_≡_};
 ghost use lib.ListN.{length};
 ghost use Rattle.root.specs.Root.{rootOf};
 ghost use Rattle.job.specs.Answer.{readAnswer};
-ghost use Rattle.recurrence.specs.Calls.{startCall, runOnCall, six};
+ghost use Rattle.recurrence.specs.Calls.{startCall, runOnCall};
+ghost use Rattle.recurrence.specs.Slices.{before, after};
 ghost use Rattle.surge.specs.Answers.{paperAnswer};
 ghost use Rattle.listing.specs.Listing.{lineWritten, AtFront};
 ghost use Rattle.c_interface.specs.Packed.{packed, packedAnswer, packedRead};
@@ -63,8 +64,10 @@ pub extern "C" fn vintuqay_start(
     spare_heads: &mut [f64],
     spare_flows: &mut [f64],
 ) -> u64
-    ensures { λ r. ⌜ r ≡ packedAnswer (startCall (now (job .entry)) (six (now (heads .entry)) (now (flows .entry)) (now (highest .entry)) (now (lowest .entry)) (now («spare_heads» .entry)) (now («spare_flows» .entry))) .answer) ⌝ }
-    ensures { λ _. ⌜ six (now (heads .exit)) (now (flows .exit)) (now (highest .exit)) (now (lowest .exit)) (now («spare_heads» .exit)) (now («spare_flows» .exit)) ≡ startCall (now (job .entry)) (six (now (heads .entry)) (now (flows .entry)) (now (highest .entry)) (now (lowest .entry)) (now («spare_heads» .entry)) (now («spare_flows» .entry))) .rows ⌝ }
+    ensures { λ r. ⌜ (let call = startCall (now (job .entry))
+        (before heads flows highest lowest «spare_heads» «spare_flows») in
+        (r ≡ packedAnswer (call .answer))
+        × (after heads flows highest lowest «spare_heads» «spare_flows» ≡ call .rows)) ⌝ }
 {
     pack_answer(surge::start(job, heads, flows, highest, lowest, spare_heads, spare_flows))
 }
@@ -82,8 +85,10 @@ pub extern "C" fn vintuqay_run_on(
     spare_heads: &mut [f64],
     spare_flows: &mut [f64],
 ) -> u64
-    ensures { λ r. ⌜ r ≡ packedAnswer (runOnCall (now (job .entry)) done count (six (now (heads .entry)) (now (flows .entry)) (now (highest .entry)) (now (lowest .entry)) (now («spare_heads» .entry)) (now («spare_flows» .entry))) .answer) ⌝ }
-    ensures { λ _. ⌜ six (now (heads .exit)) (now (flows .exit)) (now (highest .exit)) (now (lowest .exit)) (now («spare_heads» .exit)) (now («spare_flows» .exit)) ≡ runOnCall (now (job .entry)) done count (six (now (heads .entry)) (now (flows .entry)) (now (highest .entry)) (now (lowest .entry)) (now («spare_heads» .entry)) (now («spare_flows» .entry))) .rows ⌝ }
+    ensures { λ r. ⌜ (let call = runOnCall (now (job .entry)) done count
+        (before heads flows highest lowest «spare_heads» «spare_flows») in
+        (r ≡ packedAnswer (call .answer))
+        × (after heads flows highest lowest «spare_heads» «spare_flows» ≡ call .rows)) ⌝ }
 {
     pack_answer(surge::run_on(
         job,
@@ -108,7 +113,8 @@ pub extern "C" fn vintuqay_line(
     lowest: f64,
     out: &mut [u8],
 ) -> usize
-    ensures { λ r. ⌜ AtFront (lineWritten section head flow highest lowest (length (now (out .entry)))) (now (out .entry)) r (now (out .exit)) ⌝ }
+    ensures { λ r. ⌜ AtFront (lineWritten section head flow highest lowest (length (now (out .entry))))
+        (now (out .entry)) r (now (out .exit)) ⌝ }
 {
     listing::write_line(section, head, flow, highest, lowest, out)
 }

@@ -4,10 +4,13 @@ ghost use mathlib.Core.Bool.{true};
 ghost use Prim.Native.Nat.{_+_, _-_, _*_, _<_, _≤_, min};
 ghost use lib.ListN.{length};
 ghost use Rattle.fields.specs.Bytes.{f64At, finiteAt};
-ghost use Rattle.job.specs.Format.{pipeCount, pipeIn, nodeCount, kindNumber, scheduleCount, kindIn, placeOf, nodeOf, nodeAtStep};
+ghost use Rattle.job.specs.Format.{pipeCount, pipeIn, nodeCount, kindNumber, scheduleCount, kindIn};
+ghost use Rattle.job.specs.Format.{placeOf, nodeOf, nodeAtStep};
 ghost use Rattle.job.specs.Job.{entryAt, withValue};
 ghost use Rattle.job.specs.Asked.{NodesRight};
-ghost use Rattle.job.specs.Questions.{notBelowZero, kindFits, kindsFit, allFinite, hasNoFigures, valveFits, pumpFits, figuresFitKind, figureFits, figuresFit, endsAt, hasEnd, nodesMet, pairQuestions, nodeQuestions, firstNo};
+ghost use Rattle.job.specs.Questions.{notBelowZero, kindFits, kindsFit, allFinite, hasNoFigures};
+ghost use Rattle.job.specs.Questions.{valveFits, pumpFits, figuresFitKind, figureFits, figuresFit};
+ghost use Rattle.job.specs.Questions.{endsAt, hasEnd, nodesMet, pairQuestions, nodeQuestions, firstNo};
 use wave::Node;
 
 // The number of node y's kind.
@@ -29,7 +32,8 @@ pub fn schedule_count(nodes: &[u8], y: usize) -> usize
 // The place of node y + 1's schedule, from that of node y's: the number of entries before it.
 // No node has more than 256 entries, whatever its bytes.
 pub fn next_place(nodes: &[u8], y: usize, place: usize) -> usize
-    requires { ⌜ (place ≡ placeOf (now nodes) y) × (place ≤ y * 256) × (y < nodeCount (now nodes)) × (length (now nodes) ≤ 32768) ⌝ }
+    requires { ⌜ (place ≡ placeOf (now nodes) y) × (place ≤ y * 256)
+        × (y < nodeCount (now nodes)) × (length (now nodes) ≤ 32768) ⌝ }
     ensures { λ r. ⌜ (r ≡ placeOf (now (nodes .entry)) (y + 1)) × (r ≤ (y + 1) * 256) ⌝ }
 {
     place + schedule_count(nodes, y)
@@ -45,7 +49,8 @@ fn entry_index(count: usize, step: usize) -> usize
 
 // v of node y at a step, counted from 1: its schedule begins at `place`.
 pub fn value_at(nodes: &[u8], schedules: &[u8], y: usize, place: usize, step: usize) -> f64
-    requires { ⌜ (NodesRight (now nodes) (now schedules)) × (y < nodeCount (now nodes)) × (place ≡ placeOf (now nodes) y) × (1 ≤ step) ⌝ }
+    requires { ⌜ (NodesRight (now nodes) (now schedules)) × (y < nodeCount (now nodes))
+        × (place ≡ placeOf (now nodes) y) × (1 ≤ step) ⌝ }
     ensures { λ r. ⌜ r ≡ entryAt (nodeOf (now (nodes .entry)) (now (schedules .entry)) y .schedule) step ⌝ }
 {
     let i = entry_index(schedule_count(nodes, y), step);
@@ -78,7 +83,8 @@ pub fn node_with(nodes: &[u8], y: usize, v: f64) -> Node
 
 // Node y at a step, counted from 1: its schedule begins at `place`.
 pub fn node_at(nodes: &[u8], schedules: &[u8], y: usize, place: usize, step: usize) -> Node
-    requires { ⌜ (NodesRight (now nodes) (now schedules)) × (y < nodeCount (now nodes)) × (place ≡ placeOf (now nodes) y) × (1 ≤ step) ⌝ }
+    requires { ⌜ (NodesRight (now nodes) (now schedules)) × (y < nodeCount (now nodes))
+        × (place ≡ placeOf (now nodes) y) × (1 ≤ step) ⌝ }
     ensures { λ r. ⌜ r ≡ nodeAtStep (now (nodes .entry)) (now (schedules .entry)) y step ⌝ }
 {
     node_with(nodes, y, value_at(nodes, schedules, y, place, step))

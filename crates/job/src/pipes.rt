@@ -7,7 +7,8 @@ ghost use lib.ListN.{length};
 ghost use lib.Ieee.Scale.{finite};
 ghost use Rattle.job.specs.Job.{sectionsOf};
 ghost use Rattle.job.specs.Format.{pipeCount, pipeIn, pipesIn, reachesOf, firstsOf};
-ghost use Rattle.job.specs.Questions.{holdsRecords, joins, pipesJoin, sectionsFit, constantFits, constantsFit, pairQuestions, pipeQuestions, firstNo};
+ghost use Rattle.job.specs.Questions.{holdsRecords, joins, pipesJoin, sectionsFit, constantFits, constantsFit};
+ghost use Rattle.job.specs.Questions.{pairQuestions, pipeQuestions, firstNo};
 
 // The first section and the first reach of a pipe, counted through all pipes: what is carried along
 // as the pipes are walked.
@@ -50,7 +51,8 @@ pub fn constant(pipes: &[u8], p: usize) -> f64
 
 // The firsts of pipe p + 1, from those of pipe p. No pipe has more than 65,536 sections, whatever its bytes.
 pub fn next_firsts(pipes: &[u8], p: usize, at: Firsts) -> Firsts
-    requires { ⌜ (at ≡ firstsOf (now pipes) p) × (at .section ≤ p * 65536) × (p < pipeCount (now pipes)) × (length (now pipes) ≤ 32768) ⌝ }
+    requires { ⌜ (at ≡ firstsOf (now pipes) p) × (at .section ≤ p * 65536)
+        × (p < pipeCount (now pipes)) × (length (now pipes) ≤ 32768) ⌝ }
     ensures { λ r. ⌜ (r ≡ firstsOf (now (pipes .entry)) (p + 1)) × (r .section ≤ (p + 1) * 65536) ⌝ }
 {
     let n = reaches(pipes, p);

@@ -5,7 +5,9 @@ ghost use Prim.Native.Nat.{_+_, _*_, _/_, _<_, _≤_};
 ghost use lib.ListN.{length};
 ghost use Rattle.loops.specs.Loops.{allBelow};
 ghost use Rattle.job.specs.Format.{nodeCount, rOf, sectionIn, initialOf, placeOf, entryIn};
-ghost use Rattle.job.specs.Questions.{rFits, frictionFits, frictionRight, finiteSection, sectionFits, initialFits, initialRight, entryFits, schedulesFit, schedulesRight, pairQuestions, valueQuestions, firstNo};
+ghost use Rattle.job.specs.Questions.{rFits, frictionFits, frictionRight, finiteSection, sectionFits};
+ghost use Rattle.job.specs.Questions.{initialFits, initialRight, entryFits, schedulesFit, schedulesRight};
+ghost use Rattle.job.specs.Questions.{pairQuestions, valueQuestions, firstNo};
 
 // R of reach r.
 pub fn r_at(friction: &[u8], r: usize) -> f64
@@ -149,7 +151,8 @@ fn schedule_fits(schedules: &[u8], kind: usize, place: usize, count: usize) -> b
 
 // 15, of each node. The place of a schedule is carried along.
 fn schedules_fit(nodes: &[u8], schedules: &[u8]) -> bool
-    requires { ⌜ (placeOf (now nodes) (nodeCount (now nodes)) * 8 ≤ length (now schedules)) × (length (now nodes) ≤ 32768) ⌝ }
+    requires { ⌜ (placeOf (now nodes) (nodeCount (now nodes)) * 8 ≤ length (now schedules))
+        × (length (now nodes) ≤ 32768) ⌝ }
     ensures { λ r. ⌜ r ≡ schedulesFit (now (nodes .entry)) (now (schedules .entry)) ⌝ }
 {
     let n = nodes.len() / 26;

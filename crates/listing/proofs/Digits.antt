@@ -11,18 +11,18 @@ use lib.Seq.{sets}
 use Rattle.listing.specs.Text.{digit, digits, placesWithin, places}
 use Rattle.listing.proofs.Stores.{last-first}
 
-pub length-digits : (base count n : ℕ) → length (digits base count n) ≡ count
+pub length-digits : (n base count : ℕ) → length (digits n base count) ≡ count
 unfolding digits
-length-digits base zero n = refl
-length-digits base (suc count) n = length-append (digits base count (n / base)) _ ∙ rw (length-digits base count (n / base)) (omega arith)
+length-digits n base zero = refl
+length-digits n base (suc count) = length-append (digits (n / base) base count) _ ∙ rw (length-digits (n / base) base count) (omega arith)
 
 -- the lowest digit first, and then the digits before it
-pub lowest-first : (base i n at : ℕ) (l : List ℕ) → 0 < i → sets (set l (at + (i - 1)) (digit (n % base))) at (digits base (i - 1) (n / base)) ≡ sets l at (digits base i n)
+pub lowest-first : (n base i at : ℕ) (l : List ℕ) → 0 < i → sets (set l (at + (i - 1)) (digit (n % base))) at (digits (n / base) base (i - 1)) ≡ sets l at (digits n base i)
 unfolding digits
-lowest-first base zero n at l h = absurd (omega arith)
-lowest-first base (suc j) n at l h =
+lowest-first n base zero at l h = absurd (omega arith)
+lowest-first n base (suc j) at l h =
     let e : suc j - 1 ≡ j = omega arith in
-    rw e (rw (length-digits base j (n / base)) at (last-first (digits base j (n / base)) l at (digit (n % base))))
+    rw e (rw (length-digits (n / base) base j) at (last-first (digits (n / base) base j) l at (digit (n % base))))
 
 -- ---- how many decimal digits a number has
 

@@ -19,8 +19,8 @@ digit d = getD (ascii "0123456789abcdef") d 0
 
 -- the last `count` digits of n in a base, "highest first"
 unfoldable pub digits : ℕ → ℕ → ℕ → List ℕ
-digits base zero n = []
-digits base (suc count) n = digits base count (n / base) ++ (digit (n % base) ∷ [])
+digits n base zero = []
+digits n base (suc count) = digits (n / base) base count ++ (digit (n % base) ∷ [])
 
 -- How many decimal digits n has: 1 below 10, else one more than n / 10 has. The first number only ends the recursion; n is always enough.
 unfoldable pub placesWithin : ℕ → ℕ → ℕ
@@ -32,11 +32,11 @@ places n = placesWithin n n
 
 -- "number in decimal"
 abbrev pub decimal : ℕ → List ℕ
-decimal n = digits 10 (places n) n
+decimal n = digits n 10 (places n)
 
 -- "each f64 as 16 lower-case hexadecimal digits, highest first": its bit pattern. `toBits` gives every NaN the one pattern 7ff8000000000000.
 abbrev pub pattern : Float → List ℕ
-pattern x = digits 16 16 (toBits binary64 x)
+pattern x = digits (toBits binary64 x) 16 16
 
 -- "One space parts two fields, and every printed line ends with a newline." `following` is what follows a line's first field.
 abbrev pub following : List (List ℕ) → List ℕ

@@ -11,23 +11,25 @@ ghost use mathlib.Core.List.{_∷_, []};
 ghost use Prim.Native.Nat.{_+_, _*_, _≤_, _<_};
 ghost use lib.ListN.{length};
 ghost use Rattle.listing.specs.Text.{decimal, pattern, following, printed};
-ghost use Rattle.listing.specs.Listing.{lineText, closingText, linesText, rowLine, listingText, lineWritten, closingWritten, AtFront};
+ghost use Rattle.listing.specs.Listing.{lineText, closingText, linesText, rowLine, listingText};
+ghost use Rattle.listing.specs.Listing.{lineWritten, closingWritten, AtFront};
 ghost use Rattle.listing.specs.Written.{Written, Listable};
 
 // The bytes that question 24 asks for: a line has at most 3 digits, four fields of 17 and the newline.
 const LINE: usize = 72;
 
 // What a section's line has after the number.
-fn put_values(head: f64, flow: f64, highest: f64, lowest: f64, out: &mut [u8], at: usize) -> usize
+fn put_values(head: f64, flow: f64, highest: f64, lowest: f64, at: usize, out: &mut [u8]) -> usize
     requires { ⌜ at + 69 ≤ length (now out) ⌝ }
-    ensures { λ r. ⌜ Written (now (out .entry)) at (following (pattern head ∷ pattern flow ∷ pattern highest ∷ pattern lowest ∷ [])) (now (out .exit)) r ⌝ }
+    ensures { λ r. ⌜ Written (now (out .entry)) at
+        (following (pattern head ∷ pattern flow ∷ pattern highest ∷ pattern lowest ∷ [])) (now (out .exit)) r ⌝ }
     ensures { λ r. ⌜ r ≡ at + 69 ⌝ }
 {
-    let a = put_pattern(head, out, at);
-    let b = put_pattern(flow, out, a);
-    let c = put_pattern(highest, out, b);
-    let d = put_pattern(lowest, out, c);
-    put_newline(out, d)
+    let a = put_pattern(head, at, out);
+    let b = put_pattern(flow, a, out);
+    let c = put_pattern(highest, b, out);
+    let d = put_pattern(lowest, c, out);
+    put_newline(d, out)
 }
 
 // A section's line.
@@ -37,16 +39,17 @@ fn put_line(
     flow: f64,
     highest: f64,
     lowest: f64,
-    out: &mut [u8],
     at: usize,
+    out: &mut [u8],
 ) -> usize
     requires { ⌜ section < 512 ⌝ }
     requires { ⌜ at + 72 ≤ length (now out) ⌝ }
-    ensures { λ r. ⌜ Written (now (out .entry)) at (lineText section head flow highest lowest) (now (out .exit)) r ⌝ }
+    ensures { λ r. ⌜ Written (now (out .entry)) at
+        (lineText section head flow highest lowest) (now (out .exit)) r ⌝ }
     ensures { λ r. ⌜ r ≤ at + 72 ⌝ }
 {
-    let next = put_decimal(section, out, at);
-    put_values(head, flow, highest, lowest, out, next)
+    let next = put_decimal(section, at, out);
+    put_values(head, flow, highest, lowest, next, out)
 }
 
 // Writes a section's line at the front of `out` and answers how many bytes it takes; 0, with `out`
@@ -59,7 +62,8 @@ pub fn write_line(
     lowest: f64,
     out: &mut [u8],
 ) -> usize
-    ensures { λ r. ⌜ AtFront (lineWritten section head flow highest lowest (length (now (out .entry)))) (now (out .entry)) r (now (out .exit)) ⌝ }
+    ensures { λ r. ⌜ AtFront (lineWritten section head flow highest lowest (length (now (out .entry))))
+        (now (out .entry)) r (now (out .exit)) ⌝ }
 {
     if section >= 512 {
         return 0;
@@ -67,7 +71,7 @@ pub fn write_line(
     if out.len() < LINE {
         return 0;
     }
-    put_line(section, head, flow, highest, lowest, out, 0)
+    put_line(section, head, flow, highest, lowest, 0, out)
 }
 
 // The line call: the part of `out` that holds the section's line, newline included; an empty part
@@ -88,55 +92,58 @@ pub fn line<'a>(
 }
 
 // A word, a number and the newline.
-fn put_word_number(word: &[u8], n: usize, out: &mut [u8], at: usize) -> usize
+fn put_word_number(word: &[u8], n: usize, at: usize, out: &mut [u8]) -> usize
     requires { ⌜ (length (now word) ≤ 9) × (at + 72 ≤ length (now out)) ⌝ }
-    ensures { λ r. ⌜ Written (now (out .entry)) at (printed (now (word .entry)) (decimal n ∷ [])) (now (out .exit)) r ⌝ }
+    ensures { λ r. ⌜ Written (now (out .entry)) at
+        (printed (now (word .entry)) (decimal n ∷ [])) (now (out .exit)) r ⌝ }
     ensures { λ r. ⌜ r ≤ at + 72 ⌝ }
 {
-    let a = put_text(word, out, at);
-    let b = put_number(n, out, a);
-    put_newline(out, b)
+    let a = put_text(word, at, out);
+    let b = put_number(n, a, out);
+    put_newline(b, out)
 }
 
 // A word, two numbers and the newline.
-fn put_word_numbers(word: &[u8], m: usize, n: usize, out: &mut [u8], at: usize) -> usize
+fn put_word_numbers(word: &[u8], m: usize, n: usize, at: usize, out: &mut [u8]) -> usize
     requires { ⌜ (length (now word) ≤ 9) × (at + 72 ≤ length (now out)) ⌝ }
-    ensures { λ r. ⌜ Written (now (out .entry)) at (printed (now (word .entry)) (decimal m ∷ decimal n ∷ [])) (now (out .exit)) r ⌝ }
+    ensures { λ r. ⌜ Written (now (out .entry)) at
+        (printed (now (word .entry)) (decimal m ∷ decimal n ∷ [])) (now (out .exit)) r ⌝ }
     ensures { λ r. ⌜ r ≤ at + 72 ⌝ }
 {
-    let a = put_text(word, out, at);
-    let b = put_number(m, out, a);
-    let c = put_number(n, out, b);
-    put_newline(out, c)
+    let a = put_text(word, at, out);
+    let b = put_number(m, a, out);
+    let c = put_number(n, b, out);
+    put_newline(c, out)
 }
 
 // The closing line of an answer: its number, the steps done and the section.
-fn put_closing(number: usize, steps: usize, section: usize, out: &mut [u8], at: usize) -> usize
+fn put_closing(number: usize, steps: usize, section: usize, at: usize, out: &mut [u8]) -> usize
     requires { ⌜ at + 72 ≤ length (now out) ⌝ }
     ensures { λ r. ⌜ Written (now (out .entry)) at (closingText number steps section) (now (out .exit)) r ⌝ }
     ensures { λ r. ⌜ r ≤ at + 72 ⌝ }
 {
     if number == 0 {
-        return put_word_number(b"done", steps, out, at);
+        return put_word_number(b"done", steps, at, out);
     }
     if number == 40 {
-        return put_word_numbers(b"notfinite", steps, section, out, at);
+        return put_word_numbers(b"notfinite", steps, section, at, out);
     }
     if number == 41 {
-        return put_word_numbers(b"parted", steps, section, out, at);
+        return put_word_numbers(b"parted", steps, section, at, out);
     }
-    put_word_number(b"refused", number, out, at)
+    put_word_number(b"refused", number, at, out)
 }
 
 // Writes the closing line of an answer at the front of `out` and answers how many bytes it takes; 0,
 // with `out` as it was, where `out` is shorter than question 24 asks for a line.
 pub fn write_closing(number: usize, steps: usize, section: usize, out: &mut [u8]) -> usize
-    ensures { λ r. ⌜ AtFront (closingWritten number steps section (length (now (out .entry)))) (now (out .entry)) r (now (out .exit)) ⌝ }
+    ensures { λ r. ⌜ AtFront (closingWritten number steps section (length (now (out .entry))))
+        (now (out .entry)) r (now (out .exit)) ⌝ }
 {
     if out.len() < LINE {
         return 0;
     }
-    put_closing(number, steps, section, out, 0)
+    put_closing(number, steps, section, 0, out)
 }
 
 // The lines of the sections 0 to count - 1, by the four rows.
@@ -149,13 +156,15 @@ fn put_lines(
     out: &mut [u8],
 ) -> usize
     requires { ⌜ Listable count (now heads) (now flows) (now highest) (now lowest) (now out) ⌝ }
-    ensures { λ r. ⌜ Written (now (out .entry)) 0 (linesText (rowLine (now (heads .entry)) (now (flows .entry)) (now (highest .entry)) (now (lowest .entry))) count) (now (out .exit)) r ⌝ }
+    ensures { λ r. ⌜ (let line = rowLine (now (heads .entry)) (now (flows .entry))
+        (now (highest .entry)) (now (lowest .entry)) in
+        Written (now (out .entry)) 0 (linesText line count) (now (out .exit)) r) ⌝ }
     ensures { λ r. ⌜ r ≤ count * 72 ⌝ }
 {
     let mut at = 0;
     let mut s = 0;
     while s < count {
-        at = put_line(s, heads[s], flows[s], highest[s], lowest[s], out, at);
+        at = put_line(s, heads[s], flows[s], highest[s], lowest[s], at, out);
         s += 1;
     }
     at
@@ -165,18 +174,20 @@ fn put_lines(
 // the program lends rows and room enough.
 pub fn write_listing(
     count: usize,
+    number: usize,
+    steps: usize,
+    section: usize,
     heads: &[f64],
     flows: &[f64],
     highest: &[f64],
     lowest: &[f64],
-    number: usize,
-    steps: usize,
-    section: usize,
     out: &mut [u8],
 ) -> usize
     requires { ⌜ Listable count (now heads) (now flows) (now highest) (now lowest) (now out) ⌝ }
-    ensures { λ r. ⌜ AtFront (listingText (rowLine (now (heads .entry)) (now (flows .entry)) (now (highest .entry)) (now (lowest .entry))) count number steps section) (now (out .entry)) r (now (out .exit)) ⌝ }
+    ensures { λ r. ⌜ (let line = rowLine (now (heads .entry)) (now (flows .entry))
+        (now (highest .entry)) (now (lowest .entry)) in
+        AtFront (listingText line count number steps section) (now (out .entry)) r (now (out .exit))) ⌝ }
 {
     let at = put_lines(count, heads, flows, highest, lowest, out);
-    put_closing(number, steps, section, out, at)
+    put_closing(number, steps, section, at, out)
 }

@@ -18,10 +18,10 @@ fn digit_code(d: usize) -> u8
 }
 
 // The last `count` digits of n in a base, the lowest stored first.
-fn put_digits(n: u64, base: u64, count: usize, out: &mut [u8], at: usize) -> usize
+fn put_digits(n: u64, base: u64, count: usize, at: usize, out: &mut [u8]) -> usize
     requires { ⌜ (0 < base) × (base ≤ 16) ⌝ }
     requires { ⌜ at + count ≤ length (now out) ⌝ }
-    ensures { λ r. ⌜ Written (now (out .entry)) at (digits base count n) (now (out .exit)) r ⌝ }
+    ensures { λ r. ⌜ Written (now (out .entry)) at (digits n base count) (now (out .exit)) r ⌝ }
     ensures { λ r. ⌜ r ≡ at + count ⌝ }
 {
     let mut i = count;
@@ -35,7 +35,7 @@ fn put_digits(n: u64, base: u64, count: usize, out: &mut [u8], at: usize) -> usi
 }
 
 // A text of fixed bytes.
-pub fn put_text(text: &[u8], out: &mut [u8], at: usize) -> usize
+pub fn put_text(text: &[u8], at: usize, out: &mut [u8]) -> usize
     requires { ⌜ at + length (now text) ≤ length (now out) ⌝ }
     ensures { λ r. ⌜ Written (now (out .entry)) at (now (text .entry)) (now (out .exit)) r ⌝ }
 {
@@ -61,14 +61,14 @@ fn places_of(n: u64) -> usize
 }
 
 // A number in decimal.
-pub fn put_decimal(n: usize, out: &mut [u8], at: usize) -> usize
+pub fn put_decimal(n: usize, at: usize, out: &mut [u8]) -> usize
     requires { ⌜ at + places n ≤ length (now out) ⌝ }
     ensures { λ r. ⌜ Written (now (out .entry)) at (decimal n) (now (out .exit)) r ⌝ }
     ensures { λ r. ⌜ r ≡ at + places n ⌝ }
 {
     let number = n as u64;
     let count = places_of(number);
-    put_digits(number, 10, count, out, at)
+    put_digits(number, 10, count, at, out)
 }
 
 // The bit pattern of x. The test comes first, since no operation reads a NaN's own pattern.
@@ -82,27 +82,27 @@ fn bits_of(x: f64) -> u64
 }
 
 // A space and a number in decimal, of at most 20 digits.
-pub fn put_number(n: usize, out: &mut [u8], at: usize) -> usize
+pub fn put_number(n: usize, at: usize, out: &mut [u8]) -> usize
     requires { ⌜ at + 21 ≤ length (now out) ⌝ }
     ensures { λ r. ⌜ Written (now (out .entry)) at (ascii " " ++ decimal n) (now (out .exit)) r ⌝ }
     ensures { λ r. ⌜ r ≤ at + 21 ⌝ }
 {
     out[at] = b' ';
-    put_decimal(n, out, at + 1)
+    put_decimal(n, at + 1, out)
 }
 
 // A space and the pattern of x.
-pub fn put_pattern(x: f64, out: &mut [u8], at: usize) -> usize
+pub fn put_pattern(x: f64, at: usize, out: &mut [u8]) -> usize
     requires { ⌜ at + 17 ≤ length (now out) ⌝ }
     ensures { λ r. ⌜ Written (now (out .entry)) at (ascii " " ++ pattern x) (now (out .exit)) r ⌝ }
     ensures { λ r. ⌜ r ≡ at + 17 ⌝ }
 {
     out[at] = b' ';
-    put_digits(bits_of(x), 16, 16, out, at + 1)
+    put_digits(bits_of(x), 16, 16, at + 1, out)
 }
 
 // The newline that ends a line.
-pub fn put_newline(out: &mut [u8], at: usize) -> usize
+pub fn put_newline(at: usize, out: &mut [u8]) -> usize
     requires { ⌜ at < length (now out) ⌝ }
     ensures { λ r. ⌜ Written (now (out .entry)) at (ascii "\n") (now (out .exit)) r ⌝ }
     ensures { λ r. ⌜ r ≡ at + 1 ⌝ }

@@ -16,7 +16,7 @@ use Rattle.sweep.specs.Sweep.{innerAt, CutToPipe}
 use Rattle.sweep.proofs.Parts.{part-length, part-at, r-part, r-part-finite}
 use Rattle.sweep.proofs.InState.{inner-is}
 use Rattle.march.specs.March.{LaidPipe, Lent, old}
-use Rattle.march.proofs.Accept.{Within, within, friction-long, friction-finite, friction-read}
+use Rattle.march.proofs.Accept.{Within, within, friction-length, friction-finite, friction-read}
 use Rattle.march.proofs.Held.{held-head, held-flow}
 use Rattle.march.proofs.Filling.{fill-cong}
 
@@ -46,7 +46,7 @@ module _ (job : List ℕ) (heads flows : List Float) (lent : Lent job heads flow
         flows-long = omega (arith, n, cut-length flows (lent .flows-long));
         new-heads-long = omega (arith, n, cut-length newHeads h);
         new-flows-long = omega (arith, n, cut-length newFlows q);
-        friction-long = omega (arith, n, part-length (frictionTable job) (l .reach * 8) (bytesOf l) (omega (arith, lies, friction-long job (lent .accepted))));
+        friction-long = omega (arith, n, part-length (frictionTable job) (l .reach * 8) (bytesOf l) (omega (arith, lies, friction-length job (lent .accepted))));
         friction-finite =
             r-part-finite (frictionTable job) (l .reach * 8) (bytesOf l) (l .reach) _ refl (omega (arith, n))
             (λ i b. friction-finite job (lent .accepted) (l .reach + i) (omega (arith, lies, n)));

@@ -2,21 +2,23 @@
 use mathlib.Core.Path.{_≡_, refl, sym, ap, _∙_}
 use mathlib.Core.Bool.{Bool, true, false, cond}
 use mathlib.Core.List.{List, [], _∷_}
-use mathlib.Core.Option.{some}
 use Prim.Native.Nat.{ℕ, zero, suc, _+_, _<_}
 use native.Mathlib.Numerals.{add-one}
 use lib.Dec.{eqb, eqb·zero-suc, eqb·suc-zero, eqb·suc-suc}
-use lib.ListN.{getD, getElem?, set, take, replicate}
+use lib.ListN.{getD, set, take, replicate}
 use lib.Ieee.{Float, nan}
 use borrow.Author.Tests.{eqb-true, eqb-false}
 use Rattle.fields.specs.Real.{_⊞_, zero64}
 use Rattle.wave.specs.Wave.{sumFrom, sumsOf}
 use Rattle.job.specs.Job.{Laid, laid}
-use Rattle.job.specs.Format.{listed, jobOf}
+use Rattle.job.specs.Format.{listed, jobOf, pipeTable, pipeCount}
+use Rattle.job.specs.Questions.{Accepted}
 use Rattle.recurrence.specs.Step.{inputs, along, kAtStart, kAtFinish, endsOf, sumsAt, headAt}
 use Rattle.recurrence.proofs.Listed.{getD-listed, listed-cong}
 use Rattle.recurrence.proofs.StepLaws.{withPipe, sum-next}
-use Rattle.march.specs.March.{nodeSums, old, flowSums, constantSums, headBy}
+use Rattle.march.specs.March.{LaidPipe, nodeSums, old, flowSums, constantSums, headBy}
+use Rattle.march.proofs.Order.{laid-pipe, laid-all}
+use Rattle.march.proofs.Accept.{within}
 
 -- a list given by a function, with one entry stored
 set-listed : {A : Type 0} (n : ℕ) (f : ℕ → A) (i : ℕ) (v : A) → set (listed n f) i v ≡ listed n (λ k. cond (eqb i k) v (f k))
@@ -45,19 +47,29 @@ unfolding nodeSums endsOf sumFrom listed
 sums-none a b = refl
 
 -- with the ends of the next pipe l
-module _ (a b : Laid → Float) (ls : List Laid) (p : ℕ) (l : Laid) (is : getElem? ls p ≡ some l) (low : (l .pipe .start < 32) × (l .pipe .finish < 32))
-    (apart : eqb (l .pipe .start) (l .pipe .finish) ≡ false) where
-  pub sums-more : {sums : List Float} {x y : Float} → sums ≡ nodeSums a b (take p ls) → x ≡ a l → y ≡ b l
-      → set (set sums (l .pipe .start) (getD sums (l .pipe .start) nan ⊞ x)) (l .pipe .finish) (getD sums (l .pipe .finish) nan ⊞ y)
-      ≡ nodeSums a b (take (p + 1) ls)
-  unfolding nodeSums withPipe
-  sums-more {sums} {x} {y} e ex ey =
-      let g : ℕ → Float = λ k. sumFrom zero64 (endsOf a b k (take p ls)) in
-      let s = l .pipe .start in
-      let t = l .pipe .finish in
-      rw (e, getD-listed 32 g s nan (low .0), getD-listed 32 g t nan (low .1), set-listed 32 g s (g s ⊞ x))
-      (set-listed 32 (λ k. cond (eqb s k) (g s ⊞ x) (g k)) t (g t ⊞ y)
-      ∙ listed-cong 32 _ _ (λ k _. ends-apart g s t k x y apart ∙ rw (add-one p, ex, ey) (sym (sum-next a b k ls p l zero64 is))))
+pub sums-more :
+    (job : List ℕ) (ok : Accepted job) (l : Laid) (is : LaidPipe job l) (a b : Laid → Float) {sums next : List Float} {x y : Float}
+    → sums ≡ nodeSums a b (take (is .number) (laid (jobOf job)))
+    → next ≡ set (set sums (l .pipe .start) (getD sums (l .pipe .start) nan ⊞ x)) (l .pipe .finish) (getD sums (l .pipe .finish) nan ⊞ y)
+    → x ≡ a l → y ≡ b l → next ≡ nodeSums a b (take (is .number + 1) (laid (jobOf job)))
+unfolding nodeSums withPipe
+sums-more job ok l is a b {x = x} {y = y} e en ex ey =
+    let lies = within job ok l is in
+    let ls = laid (jobOf job) in
+    let p = is .number in
+    let g : ℕ → Float = λ k. sumFrom zero64 (endsOf a b k (take p ls)) in
+    let s = l .pipe .start in
+    let t = l .pipe .finish in
+    en
+    ∙ rw (e, getD-listed 32 g s nan (lies .start-low), getD-listed 32 g t nan (lies .finish-low), set-listed 32 g s (g s ⊞ x))
+    (set-listed 32 (λ k. cond (eqb s k) (g s ⊞ x) (g k)) t (g t ⊞ y)
+    ∙ listed-cong 32 _ _ (λ k _. ends-apart g s t k x y (lies .apart) ∙ rw (add-one p, ex, ey) (sym (sum-next a b k ls p l zero64 (laid-pipe job l is)))))
+
+-- after every pipe
+pub sums-all :
+    (job : List ℕ) (a b : Laid → Float) (p : ℕ) {sums : List Float} → sums ≡ nodeSums a b (take p (laid (jobOf job))) → pipeCount (pipeTable job) ≡ p
+    → sums ≡ nodeSums a b (laid (jobOf job))
+sums-all job a b p h e = h ∙ rw (← e, laid-all job)
 
 -- the head of a node from the rows of sums is the recurrence's
 pub head-by-sums : (job : List ℕ) (n : ℕ) (heads flows : List Float) (y : ℕ) → y < 32

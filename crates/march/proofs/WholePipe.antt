@@ -66,12 +66,12 @@ module _ (job : List ℕ) (ok : Accepted job) (n : ℕ) (heads flows : List Floa
     lies : Within job ok l
     lies = within job ok l is
 
-    by-nodes : (i : ℕ) → newInPipe job (nodeHeads job n heads flows) heads flows l i ≡ newIn (laid (jobOf job)) (inputs (jobOf job) n) (old job heads flows) l i
+    by-nodes : (i : ℕ) → newInPipe job l (nodeHeads job n heads flows) heads flows i ≡ newIn (laid (jobOf job)) (inputs (jobOf job) n) (old job heads flows) l i
     unfolding newBy newIn atStart atFinish between kAtStart kAtFinish cpAfter cmBefore along inputs
     by-nodes zero = rw (node-read (l .pipe .start) (lies .joined .start-present))
     by-nodes (suc i) = rw (node-read (l .pipe .finish) (lies .joined .finish-present))
 
-    pub in-pipe : (i : ℕ) → i ≤ l .pipe .reaches → newInPipe job (nodeHeads job n heads flows) heads flows l i ≡ newSection job n heads flows (l .first + i)
+    pub in-pipe : (i : ℕ) → i ≤ l .pipe .reaches → newInPipe job l (nodeHeads job n heads flows) heads flows i ≡ newSection job n heads flows (l .first + i)
     unfolding newSection newAt
     in-pipe i h = by-nodes i ∙ rw (laid-located (jobOf job) (is .number) l i (laid-pipe job l is) h)
 
@@ -79,7 +79,7 @@ module _ (job : List ℕ) (ok : Accepted job) (n : ℕ) (heads flows : List Floa
     pub pipe-more :
         (field : HeadFlow → Float) (row : List Float) {nodes before after : List Float} {first : ℕ} → nodes ≡ nodeHeads job n heads flows → l .first ≡ first
         → before ≡ fill (λ s. field (newSection job n heads flows s)) row 0 first
-        → after ≡ fill (λ i. field (newInPipe job nodes heads flows l i)) before (l .first) (l .pipe .reaches + 1)
+        → after ≡ fill (λ i. field (newInPipe job l nodes heads flows i)) before (l .first) (l .pipe .reaches + 1)
         → after ≡ fill (λ s. field (newSection job n heads flows s)) row 0 (first + l .pipe .reaches + 1)
     pipe-more field row {first = first} en ef eb ea =
         let c : l .first + (l .pipe .reaches + 1) ≡ l .first + l .pipe .reaches + 1 = omega arith in

@@ -2,7 +2,7 @@
 use mathlib.Core.Path.{_≡_}
 use mathlib.Core.List.{List}
 use mathlib.Core.Bool.{cond}
-use Prim.Native.Nat.{ℕ, zero, suc, _+_, _≤_, _<_}
+use Prim.Native.Nat.{ℕ, zero, suc, _≤_, _<_}
 use lib.Dec.{eqb}
 use lib.ListN.{length, getD, replicate}
 use lib.Ieee.{Float, nan}
@@ -11,8 +11,8 @@ use Rattle.loops.specs.Loops.{fill}
 use Rattle.wave.specs.declared.HeadFlow.{HeadFlow}
 use Rattle.wave.specs.Wave.{sumFrom, startEnd, finishEnd}
 use Rattle.wave.specs.Nodes.{nodeHead}
-use Rattle.job.specs.Job.{Pipe, Laid, laid, sections}
-use Rattle.job.specs.Format.{listed, jobOf, pipeTable, nodeTable, pipeCount, pipeIn, nodeCount}
+use Rattle.job.specs.Job.{Laid, laid, sections}
+use Rattle.job.specs.Format.{listed, jobOf, pipeTable, nodeTable, pipeCount, pipeIn, firstsOf, nodeCount}
 use Rattle.job.specs.Questions.{Accepted}
 use Rattle.recurrence.specs.State.{State}
 use Rattle.recurrence.specs.Step.{Inputs, inputs, nodeNow, kAtStart, kAtFinish, endsOf, headAt, located, newAt, between}
@@ -20,21 +20,10 @@ use Rattle.march.specs.declared.laid.Laid as Code
 
 -- ---- the laid pipes, counted from the first
 
--- the numbers of the first section and of the first reach of pipe p
-unfoldable pub sectionsTo : (ℕ → Pipe) → ℕ → ℕ
-sectionsTo f zero = 0
-sectionsTo f (suc p) = sectionsTo f p + suc (f p .reaches)
-
-unfoldable pub reachesTo : (ℕ → Pipe) → ℕ → ℕ
-reachesTo f zero = 0
-reachesTo f (suc p) = reachesTo f p + f p .reaches
-
-abbrev pub laidIn : (ℕ → Pipe) → ℕ → Laid
-laidIn f p = record { pipe = f p; first = sectionsTo f p; reach = reachesTo f p }
-
--- pipe p of a job
-abbrev pub pipeOf : List ℕ → ℕ → Pipe
-pipeOf job p = pipeIn (pipeTable job) p
+-- pipe p of a job, with the numbers of its first section and of its first reach
+abbrev pub laidIn : List ℕ → ℕ → Laid
+laidIn job p =
+    record { pipe = pipeIn (pipeTable job) p; first = firstsOf (pipeTable job) p .section; reach = firstsOf (pipeTable job) p .reach }
 
 -- a laid pipe of the code is one of the definitions
 abbrev pub laidOf : Code.Laid → Laid
@@ -44,12 +33,11 @@ laidOf l = record { pipe = record { start = l .start; finish = l .finish; reache
 pub record LaidPipe (job : List ℕ) (l : Laid) : Type 0 where
   pub number : ℕ
   pub present : number < pipeCount (pipeTable job)
-  pub is : l ≡ laidIn (pipeOf job) number
+  pub is : l ≡ laidIn job number
 
--- a walk over the pipes that has come to pipe p
-pub record Walked (job : List ℕ) (p first reach : ℕ) : Type 0 where
-  pub sections-passed : first ≡ sectionsTo (pipeOf job) p
-  pub reaches-passed : reach ≡ reachesTo (pipeOf job) p
+-- a walk over the pipes that has come to pipe p, its first section and its first reach
+abbrev pub Walked : List ℕ → ℕ → ℕ → ℕ → Type 0
+Walked job p first reach = record { section = first; reach = reach } ≡ firstsOf (pipeTable job) p
 
 -- ---- the old state, of which a step reads heads and flows alone: +0 stands for the envelopes
 
@@ -98,8 +86,8 @@ newBy head f st l zero = startEnd (l .pipe .S) (kAtStart f st l) (head (l .pipe 
 newBy head f st l (suc i) =
     cond (eqb (suc i) (l .pipe .reaches)) (finishEnd (l .pipe .S) (kAtFinish f st l) (head (l .pipe .finish))) (between f st l i)
 
-abbrev pub newInPipe : List ℕ → List Float → List Float → List Float → Laid → ℕ → HeadFlow
-newInPipe job nodes heads flows l i = newBy (λ y. getD nodes y nan) (inputs (jobOf job) 0) (old job heads flows) l i
+abbrev pub newInPipe : List ℕ → Laid → List Float → List Float → List Float → ℕ → HeadFlow
+newInPipe job l nodes heads flows i = newBy (λ y. getD nodes y nan) (inputs (jobOf job) 0) (old job heads flows) l i
 
 -- the new head and flow of section s at step n
 unfoldable pub newSection : List ℕ → ℕ → List Float → List Float → ℕ → HeadFlow

@@ -7,15 +7,15 @@ ghost use lib.ListN.{getD, set};
 ghost use lib.Ieee.{nan};
 ghost use Rattle.fields.specs.Real.{_⊞_};
 ghost use Rattle.job.specs.Job.{frictionAt};
-ghost use Rattle.job.specs.Format.{jobOf, pipeTable, pipeCount};
+ghost use Rattle.job.specs.Format.{jobOf, reachesOf};
 ghost use Rattle.job.specs.Questions.{Accepted};
 ghost use Rattle.recurrence.specs.Step.{inputs, kAtStart, kAtFinish};
-ghost use Rattle.march.specs.March.{reachesTo, pipeOf, laidOf, LaidPipe, Lent, old, flowSums, constantSums};
+ghost use Rattle.march.specs.March.{laidOf, LaidPipe, Lent, old, flowSums, constantSums};
 use super::laid::Laid;
 
 // R of a reach.
 fn friction_at(job: &[u8], r: usize) -> f64
-    requires { ⌜ (Accepted (now job)) × (r < reachesTo (pipeOf (now job)) (pipeCount (pipeTable (now job)))) ⌝ }
+    requires { ⌜ (Accepted (now job)) × (r < reachesOf (jobOf (now job) .pipes)) ⌝ }
     ensures { λ x. ⌜ x ≡ frictionAt (jobOf (now (job .entry))) r ⌝ }
 {
     job::values::r_at(job::pairs::table(job, 2), r)
@@ -24,7 +24,8 @@ fn friction_at(job: &[u8], r: usize) -> f64
 // K at a pipe's start, by its section 1.
 pub fn k_at_start(job: &[u8], l: Laid, heads: &[f64], flows: &[f64]) -> f64
     requires { ⌜ (Lent (now job) (now heads) (now flows)) × (LaidPipe (now job) (laidOf l)) ⌝ }
-    ensures { λ r. ⌜ r ≡ kAtStart (inputs (jobOf (now (job .entry))) 0) (old (now (job .entry)) (now (heads .entry)) (now (flows .entry))) (laidOf l) ⌝ }
+    ensures { λ r. ⌜ r ≡ kAtStart (inputs (jobOf (now (job .entry))) 0)
+        (old (now (job .entry)) (now (heads .entry)) (now (flows .entry))) (laidOf l) ⌝ }
 {
     let at = l.first + 1;
     wave::start_k(l.s, friction_at(job, l.reach), heads[at], flows[at])
@@ -33,7 +34,8 @@ pub fn k_at_start(job: &[u8], l: Laid, heads: &[f64], flows: &[f64]) -> f64
 // K at a pipe's finish, by the section above it.
 pub fn k_at_finish(job: &[u8], l: Laid, heads: &[f64], flows: &[f64]) -> f64
     requires { ⌜ (Lent (now job) (now heads) (now flows)) × (LaidPipe (now job) (laidOf l)) ⌝ }
-    ensures { λ r. ⌜ r ≡ kAtFinish (inputs (jobOf (now (job .entry))) 0) (old (now (job .entry)) (now (heads .entry)) (now (flows .entry))) (laidOf l) ⌝ }
+    ensures { λ r. ⌜ r ≡ kAtFinish (inputs (jobOf (now (job .entry))) 0)
+        (old (now (job .entry)) (now (heads .entry)) (now (flows .entry))) (laidOf l) ⌝ }
 {
     let i = l.reaches - 1;
     let at = l.first + i;
@@ -41,9 +43,10 @@ pub fn k_at_finish(job: &[u8], l: Laid, heads: &[f64], flows: &[f64]) -> f64
 }
 
 // The sums of the nodes with a pipe's two ends added.
-fn add_ends(sums: &mut [f64; 32], start: usize, finish: usize, at_start: f64, at_finish: f64)
+fn add_ends(start: usize, finish: usize, at_start: f64, at_finish: f64, sums: &mut [f64; 32])
     requires { ⌜ (start < 32) × (finish < 32) × (eqb start finish ≡ false) ⌝ }
-    ensures { λ _. ⌜ now (sums .exit) ≡ set (set (now (sums .entry)) start (getD (now (sums .entry)) start nan ⊞ «at_start»)) finish (getD (now (sums .entry)) finish nan ⊞ «at_finish») ⌝ }
+    ensures { λ _. ⌜ (let was = now (sums .entry) in now (sums .exit)
+        ≡ set (set was start (getD was start nan ⊞ «at_start»)) finish (getD was finish nan ⊞ «at_finish»)) ⌝ }
 {
     sums[start] = sums[start] + at_start;
     sums[finish] = sums[finish] + at_finish;
@@ -61,7 +64,7 @@ pub fn constant_sums(job: &[u8]) -> [f64; 32]
     let mut p = 0;
     while p < count {
         let l = super::laid::pipe_at(job, p, first, reach);
-        add_ends(&mut sums, l.start, l.finish, l.s, l.s);
+        add_ends(l.start, l.finish, l.s, l.s, &mut sums);
         first = first + l.reaches + 1;
         reach = reach + l.reaches;
         p += 1;
@@ -83,7 +86,7 @@ pub fn flow_sums(job: &[u8], heads: &[f64], flows: &[f64]) -> [f64; 32]
         let l = super::laid::pipe_at(job, p, first, reach);
         let top = k_at_start(job, l, heads, flows);
         let foot = k_at_finish(job, l, heads, flows);
-        add_ends(&mut sums, l.start, l.finish, top, foot);
+        add_ends(l.start, l.finish, top, foot, &mut sums);
         first = first + l.reaches + 1;
         reach = reach + l.reaches;
         p += 1;

@@ -3,7 +3,7 @@ ghost use mathlib.Core.Path.{_≡_};
 ghost use Prim.Native.Nat.{_<_, _≤_};
 ghost use Rattle.job.specs.Format.{pipeTable, pipeCount};
 ghost use Rattle.job.specs.Questions.{Accepted};
-ghost use Rattle.march.specs.March.{laidIn, laidOf, pipeOf, Walked};
+ghost use Rattle.march.specs.March.{laidIn, laidOf, Walked};
 
 // Pipe p as it is laid: its fields, and the numbers of its first section and of its first reach.
 pub struct Laid {
@@ -27,7 +27,7 @@ pub fn pipe_count(job: &[u8]) -> usize
 pub fn pipe_at(job: &[u8], p: usize, first: usize, reach: usize) -> Laid
     requires { ⌜ (Accepted (now job)) × (p < pipeCount (pipeTable (now job))) ⌝ }
     requires { ⌜ Walked (now job) p first reach ⌝ }
-    ensures { λ r. ⌜ laidOf r ≡ laidIn (pipeOf (now (job .entry))) p ⌝ }
+    ensures { λ r. ⌜ laidOf r ≡ laidIn (now (job .entry)) p ⌝ }
 {
     let pipes = job::pairs::table(job, 0);
     Laid {

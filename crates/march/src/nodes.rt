@@ -8,7 +8,8 @@ use wave::Sums;
 // H of each node at step n, from its sums. The place of a schedule is carried along.
 fn node_heads(job: &[u8], n: usize, b: &[f64; 32], t: &[f64; 32]) -> [f64; 32]
     requires { ⌜ (Accepted (now job)) × (1 ≤ n) ⌝ }
-    ensures { λ r. ⌜ r ≡ overNodes (now (job .entry)) (headBy (now (job .entry)) n (now (b .entry)) (now (t .entry))) ⌝ }
+    ensures { λ r. ⌜ r ≡ overNodes (now (job .entry))
+        (headBy (now (job .entry)) n (now (b .entry)) (now (t .entry))) ⌝ }
 {
     let nodes = job::pairs::table(job, 1);
     let schedules = job::pairs::table(job, 4);

@@ -1,11 +1,11 @@
 // The sections of the pipes.
 ghost use mathlib.Core.Path.{_≡_};
-ghost use Prim.Native.Nat.{ℕ, _+_, _-_, _≤_};
+ghost use Prim.Native.Nat.{_+_, _-_, _≤_};
 ghost use lib.ListN.{length};
-ghost use Rattle.loops.specs.Loops.{fill};
 ghost use Rattle.job.specs.Job.{sections};
 ghost use Rattle.job.specs.Format.{jobOf};
 ghost use Rattle.recurrence.specs.Step.{inputs, between};
+ghost use Rattle.sweep.specs.Sweep.{WrittenRows};
 ghost use Rattle.march.specs.March.{laidOf, LaidPipe, Lent, old, constantSums, newInPipe, newSection};
 use super::laid::Laid;
 use wave::HeadFlow;
@@ -20,9 +20,11 @@ fn write_inner(
     new_flows: &mut [f64],
 )
     requires { ⌜ (Lent (now job) (now heads) (now flows)) × (LaidPipe (now job) (laidOf l)) ⌝ }
-    requires { ⌜ (sections (jobOf (now job)) ≤ length (now «new_heads»)) × (sections (jobOf (now job)) ≤ length (now «new_flows»)) ⌝ }
-    ensures { λ _. ⌜ (now («new_heads» .exit) ≡ fill (λ (i : ℕ). between (inputs (jobOf (now (job .entry))) 0) (old (now (job .entry)) (now (heads .entry)) (now (flows .entry))) (laidOf l) i .head) (now («new_heads» .entry)) (l .first + 1) (l .reaches - 1))
-        × (now («new_flows» .exit) ≡ fill (λ (i : ℕ). between (inputs (jobOf (now (job .entry))) 0) (old (now (job .entry)) (now (heads .entry)) (now (flows .entry))) (laidOf l) i .flow) (now («new_flows» .entry)) (l .first + 1) (l .reaches - 1)) ⌝ }
+    requires { ⌜ (sections (jobOf (now job)) ≤ length (now «new_heads»))
+        × (sections (jobOf (now job)) ≤ length (now «new_flows»)) ⌝ }
+    ensures { λ _. ⌜ WrittenRows (between (inputs (jobOf (now (job .entry))) 0)
+        (old (now (job .entry)) (now (heads .entry)) (now (flows .entry))) (laidOf l))
+        (l .first + 1) (l .reaches - 1) «new_heads» «new_flows» ⌝ }
 {
     let friction = job::pairs::table(job, 2);
     let a = l.reach * 8;
@@ -48,8 +50,8 @@ struct Ends {
 // The new head and flow at a pipe's start and finish; nodes has H of each node.
 fn new_ends(job: &[u8], l: Laid, nodes: &[f64; 32], heads: &[f64], flows: &[f64]) -> Ends
     requires { ⌜ (Lent (now job) (now heads) (now flows)) × (LaidPipe (now job) (laidOf l)) ⌝ }
-    ensures { λ r. ⌜ (r .top ≡ newInPipe (now (job .entry)) (now (nodes .entry)) (now (heads .entry)) (now (flows .entry)) (laidOf l) 0)
-        × (r .foot ≡ newInPipe (now (job .entry)) (now (nodes .entry)) (now (heads .entry)) (now (flows .entry)) (laidOf l) (l .reaches)) ⌝ }
+    ensures { λ r. ⌜ (let new = newInPipe (now (job .entry)) (laidOf l) (now (nodes .entry))
+        (now (heads .entry)) (now (flows .entry)) in (r .top ≡ new 0) × (r .foot ≡ new (l .reaches))) ⌝ }
 {
     let a = l.start;
     let b = l.finish;
@@ -74,9 +76,10 @@ fn write_pipe(
     new_flows: &mut [f64],
 )
     requires { ⌜ (Lent (now job) (now heads) (now flows)) × (LaidPipe (now job) (laidOf l)) ⌝ }
-    requires { ⌜ (sections (jobOf (now job)) ≤ length (now «new_heads»)) × (sections (jobOf (now job)) ≤ length (now «new_flows»)) ⌝ }
-    ensures { λ _. ⌜ (now («new_heads» .exit) ≡ fill (λ (i : ℕ). newInPipe (now (job .entry)) (now (nodes .entry)) (now (heads .entry)) (now (flows .entry)) (laidOf l) i .head) (now («new_heads» .entry)) (l .first) (l .reaches + 1))
-        × (now («new_flows» .exit) ≡ fill (λ (i : ℕ). newInPipe (now (job .entry)) (now (nodes .entry)) (now (heads .entry)) (now (flows .entry)) (laidOf l) i .flow) (now («new_flows» .entry)) (l .first) (l .reaches + 1)) ⌝ }
+    requires { ⌜ (sections (jobOf (now job)) ≤ length (now «new_heads»))
+        × (sections (jobOf (now job)) ≤ length (now «new_flows»)) ⌝ }
+    ensures { λ _. ⌜ WrittenRows (newInPipe (now (job .entry)) (laidOf l) (now (nodes .entry))
+        (now (heads .entry)) (now (flows .entry))) (l .first) (l .reaches + 1) «new_heads» «new_flows» ⌝ }
 {
     let ends = new_ends(job, l, nodes, heads, flows);
     let top = ends.top;
@@ -101,9 +104,10 @@ pub fn work_out(
     new_flows: &mut [f64],
 )
     requires { ⌜ (Lent (now job) (now heads) (now flows)) × (1 ≤ n) × (now t ≡ constantSums (now job)) ⌝ }
-    requires { ⌜ (sections (jobOf (now job)) ≤ length (now «new_heads»)) × (sections (jobOf (now job)) ≤ length (now «new_flows»)) ⌝ }
-    ensures { λ _. ⌜ (now («new_heads» .exit) ≡ fill (λ (s : ℕ). newSection (now (job .entry)) n (now (heads .entry)) (now (flows .entry)) s .head) (now («new_heads» .entry)) 0 (sections (jobOf (now (job .entry)))))
-        × (now («new_flows» .exit) ≡ fill (λ (s : ℕ). newSection (now (job .entry)) n (now (heads .entry)) (now (flows .entry)) s .flow) (now («new_flows» .entry)) 0 (sections (jobOf (now (job .entry))))) ⌝ }
+    requires { ⌜ (sections (jobOf (now job)) ≤ length (now «new_heads»))
+        × (sections (jobOf (now job)) ≤ length (now «new_flows»)) ⌝ }
+    ensures { λ _. ⌜ WrittenRows (newSection (now (job .entry)) n (now (heads .entry)) (now (flows .entry)))
+        0 (sections (jobOf (now (job .entry)))) «new_heads» «new_flows» ⌝ }
 {
     let nodes = super::nodes::heads_at(job, n, t, heads, flows);
     let count = super::laid::pipe_count(job);

@@ -4,6 +4,7 @@ use Rattle.root.proofs.Figures.{p10}
 use Rattle.wave.proofs.Figures.{bench-figures}
 use Rattle.recurrence.specs.Figures.{BenchTable}
 use Rattle.recurrence.specs.OwnFigures.{RowFigures, RefusalFigures, StepFigures}
+use Rattle.recurrence.proofs.EachRow.{each}
 use Rattle.recurrence.proofs.Opened.{opened}
 
 pub bench-table : BenchTable
@@ -27,13 +28,8 @@ row-figures = record { start = refl; one-step = refl; five-steps = refl; stop = 
 pub refusal-figures : RefusalFigures
 unfolding opened
 refusal-figures = record {
-  short-heads = refl;
-  short-flows = refl;
-  short-highest = refl;
-  short-lowest = refl;
-  short-spare-heads = refl;
-  short-spare-flows = refl;
-  short-start = refl;
+  short-run-on = each _ refl refl refl refl refl refl;
+  short-start = each _ refl refl refl refl refl refl;
   just-enough = refl;
   m-too-great = refl;
   N-too-great = refl;
@@ -45,7 +41,8 @@ refusal-figures = record {
   flow-not-finite = refl;
   highest-not-finite = refl;
   lowest-not-finite = refl;
-  spare-not-asked = refl;
+  spare-heads-not-asked = refl;
+  spare-flows-not-asked = refl;
   past-the-count = refl;
   fifteen-before-20 = refl;
   fifteen-before-20-start = refl;

@@ -11,13 +11,13 @@ use Rattle.recurrence.specs.Demand.{BothDone}
 use Rattle.recurrence.specs.Lent.{LentCall, heldBy, callOf, Demand3InRows}
 use Rattle.recurrence.proofs.Runs.{played-counts}
 use Rattle.recurrence.proofs.Theorem.{demand-3}
-use Rattle.recurrence.proofs.Tied.{Follows, begun, holds-point, calls-follow}
+use Rattle.recurrence.proofs.RowLaws.{holds-point}
+use Rattle.recurrence.proofs.Tied.{Follows, begun, calls-follow}
 
 -- an entry of what is held is the point of the run
 entry : (job : List ℕ) (lent : Rows) (cs : List LentCall) (ds : List Call) → Follows job (heldBy job lent cs) (played (jobOf job) ds)
     → (s : ℕ) → s < sections (jobOf job) → pointIn (heldBy job lent cs .rows) s ≡ pointAt (played (jobOf job) ds .state) s
-unfolding pointAt
-entry job lent cs ds f s l = holds-point (sections (jobOf job)) (heldBy job lent cs .rows) (played (jobOf job) ds .state .points) (f .rows) (f .sized) s l
+entry job lent cs ds f s l = holds-point (jobOf job) (heldBy job lent cs .rows) (played (jobOf job) ds .state) (f .rows) (f .sized) s l
 
 module _ (a b : List ℕ) (lentA lentB : Rows) (callsA callsB : List LentCall) (cs : List Call)
     (fa : Follows a (heldBy a lentA callsA) (played (jobOf a) cs)) (fb : Follows b (heldBy b lentB callsB) (played (jobOf b) cs))

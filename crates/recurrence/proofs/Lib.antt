@@ -1,5 +1,6 @@
 pub mod Tests
 pub mod Listed
+pub mod EachRow
 pub mod Laying
 pub mod Acceptance
 pub mod Cone

@@ -1,130 +1,133 @@
--- What a row holds after a call, entry by entry and as what a loop fills in. Assumes nothing.
--- Of a row:  row-at, row-past, row-length;  row-fill   a loop that stores a field of each point;  row-same   nothing changed;  row-again   stored anew
--- Of the six:  state-at;  state-of-rows   the rows that a call leaves hold its state;  enough-lengths, lengths-enough   question 20
-use mathlib.Core.Path.{_≡_, refl, sym, ap, _∙_, subst}
-use mathlib.Core.Bool.{true, _&&_}
-use mathlib.Core.List.{List, _++_, map}
-use Prim.Native.Nat.{ℕ, _+_, _-_, _≤_, _<_}
+-- The lent rows, each by its name: question 20, what they hold, and what a call leaves in them. Assumes nothing.
+-- enough-each, each-enough   question 20
+-- state-at, holds-point, holds-state, state-held   the state in the rows
+-- rows-hold, row-left   the rows that a call leaves;  take-filled   a row that a loop fills
+use mathlib.Core.Path.{_≡_, refl, sym, ap, ap₂, _∙_}
+use mathlib.Core.Bool.{Bool, true, _&&_, true≢false}
+use mathlib.Core.List.{List, [], _∷_, _++_, foldr, map}
+use Prim.Native.Nat.{ℕ, _≤_, _<_}
 use native.Mathlib.Nat.{zero-add}
-use native.Mathlib.Decide.{decLt}
 use native.Mathlib.Omega.{arith}
 use lib.Dec.{leb}
-use lib.ListN.{length, getD, drop, length-append, length-drop, length-map, List·getD-append, List·getD-map}
-use lib.Seq.{ext-getD, getD-append-add, getD-drop, drop-at}
+use lib.ListN.{length, getD, take, drop, replicate, take-append-drop, length-map, length-replicate, getD-replicate, List·getD-map}
+use lib.Seq.{ext-getD, getD-take, length-take-le, take-at}
 use lib.Ieee.{Float}
 use borrow.Author.Tests.{leb-true, le-leb}
 use Rattle.fields.specs.Real.{zero64}
 use Rattle.loops.specs.Loops.{fill}
-use Rattle.loops.proofs.Fill.{length-fill, fill-in, fill-above}
+use Rattle.loops.proofs.Fill.{length-fill, fill-in}
+use Rattle.job.specs.Job.{Job, sections}
+use Rattle.job.specs.Format.{listed}
 use Rattle.recurrence.specs.State.{Point, State, noPoint, pointAt}
-use Rattle.recurrence.specs.Calls.{Rows, enoughLent, pointIn, stateIn, rowOf, rowsOf}
-use Rattle.loops.proofs.Within.{getD-within}
+use Rattle.recurrence.specs.Calls.{Row, heads, flows, highest, lowest, allRows, Rows, inUse, enoughLent, pointIn, stateIn, holds, rowsOf}
+use Rattle.recurrence.specs.Lent.{Holds}
 use Rattle.recurrence.proofs.Tests.{both}
-use Rattle.recurrence.proofs.Listed.{length-listed, getD-listed}
-use Rattle.recurrence.proofs.Tied.{holds-state, rows-hold}
+use Rattle.recurrence.proofs.Listed.{length-listed, getD-listed, map-listed, listed-cong}
+use Rattle.recurrence.proofs.Runs.{Sized}
+use Rattle.recurrence.proofs.EachRow.{EachOf, each, untupled}
 
--- ---- one row
+-- ---- question 20
 
-module _ (n : ℕ) (st : State) (f : Point → Float) (lent : List Float) (long : length (st .points) ≡ n) where
-  map-long : length (map f (st .points)) ≡ n
-  map-long = length-map (st .points) f ∙ long
+module _ (test : Row → Bool) where
+  abbrev pass : List Row → Bool
+  pass xs = foldr (λ x rest. test x && rest) true xs
 
-  pub row-at : (s : ℕ) (d : Float) → s < n → getD (rowOf n st f lent) s d ≡ f (pointAt st s)
-  unfolding rowOf pointAt
-  row-at s d h =
-      let l : s < length (map f (st .points)) = omega (arith, map-long) in
-      List·getD-append (map f (st .points)) (drop n lent) d s l
-      ∙ getD-within (map f (st .points)) s d (f noPoint) l
-      ∙ List·getD-map f (st .points) s noPoint
+  pass-each : (xs : List Row) → pass xs ≡ true → EachOf (λ x. test x ≡ true) xs
+  pass-each [] h = tt
+  pass-each (x ∷ xs) h = let b = both (test x) (pass xs) h in (b .0, pass-each xs (b .1))
 
-  past : (k : ℕ) (d : Float) → getD (rowOf n st f lent) (n + k) d ≡ getD lent (n + k) d
-  unfolding rowOf
-  past k d =
-      ap (λ (m : ℕ). getD (map f (st .points) ++ drop n lent) (m + k) d) (sym map-long)
-      ∙ getD-append-add (map f (st .points)) (drop n lent) k d
-      ∙ getD-drop n lent k d
+  each-pass : ((x : Row) → test x ≡ true) → (xs : List Row) → pass xs ≡ true
+  each-pass h [] = refl
+  each-pass h (x ∷ xs) = rw (h x) (each-pass h xs)
 
-  pub row-past : (s : ℕ) (d : Float) → n ≤ s → getD (rowOf n st f lent) s d ≡ getD lent s d
-  row-past s d h =
-      let e : n + (s - n) ≡ s = omega arith in
-      subst (λ (t : ℕ). getD (rowOf n st f lent) t d ≡ getD lent t d) e (past (s - n) d)
+-- every row has the entries that the job uses
+abbrev pub Enough : Job → Rows → Type 0
+Enough j r = (x : Row) → inUse j x ≤ length (r x)
 
-  pub row-length : n ≤ length lent → length (rowOf n st f lent) ≡ length lent
-  unfolding rowOf
-  row-length h = omega (arith, length-append (map f (st .points)) (drop n lent), map-long, length-drop n lent)
+module _ (j : Job) (r : Rows) where
+  abbrev holds-use : Row → Bool
+  holds-use x = leb (inUse j x) (length (r x))
 
-  -- a list of the same length that holds a field of each point, and past the count what was lent
-  row-ext : n ≤ length lent → (l : List Float) → length l ≡ length lent → ((s : ℕ) → s < n → getD l s zero64 ≡ f (pointAt st s))
-      → ((s : ℕ) → n ≤ s → getD l s zero64 ≡ getD lent s zero64) → l ≡ rowOf n st f lent
-  row-ext h l e at after = ext-getD zero64 l (rowOf n st f lent) (e ∙ sym (row-length h)) (λ s _. go s (decLt s n))
-    where
-      go : (s : ℕ) → Dec (s < n) → getD l s zero64 ≡ getD (rowOf n st f lent) s zero64
-      go s (yes q) = at s q ∙ sym (row-at s zero64 q)
-      go s (no q) = let w : n ≤ s = omega arith in after s w ∙ sym (row-past s zero64 w)
-
-  pub row-fill : n ≤ length lent → (g : ℕ → Float) → ((s : ℕ) → s < n → g s ≡ f (pointAt st s)) → fill g lent 0 n ≡ rowOf n st f lent
-  row-fill h g e =
-      row-ext h (fill g lent 0 n) (length-fill g lent 0 n)
-      (λ s l. ap (λ (t : ℕ). getD (fill g lent 0 n) t zero64) (sym (zero-add s)) ∙ fill-in g lent 0 zero64 n s (omega arith) l ∙ e s l)
-      (λ s l. fill-above g lent 0 zero64 n s (omega arith))
-
-  pub row-same : n ≤ length lent → ((s : ℕ) → s < n → f (pointAt st s) ≡ getD lent s zero64) → rowOf n st f lent ≡ lent
-  row-same h e = sym (row-ext h lent refl (λ s l. sym (e s l)) (λ s l. refl))
-
-  pub row-drop : drop n (rowOf n st f lent) ≡ drop n lent
-  unfolding rowOf
-  row-drop = drop-at (map f (st .points)) (drop n lent) n map-long
-
-  -- what is stored anew keeps no trace of what stood there
-  pub row-again : (new : State) (g : Point → Float) → rowOf n new g (rowOf n st f lent) ≡ rowOf n new g lent
-  unfolding rowOf
-  row-again new g = ap (λ (l : List Float). map g (new .points) ++ l) row-drop
-
--- ---- the six rows
-
-pub state-at : (n : ℕ) (r : Rows) (s : ℕ) → s < n → pointAt (stateIn n r) s ≡ pointIn r s
-unfolding stateIn pointAt
-state-at n r s h = getD-listed n (pointIn r) s noPoint h
-
-pub state-long : (n : ℕ) (r : Rows) → length (stateIn n r .points) ≡ n
-unfolding stateIn
-state-long n r = length-listed n (pointIn r)
-
-pub state-of-rows : (n : ℕ) (st : State) (lent : Rows) → length (st .points) ≡ n → stateIn n (rowsOf n st lent) ≡ st
-state-of-rows n st lent e = holds-state n (rowsOf n st lent) (st .points) (rows-hold n st lent e) e
-
--- question 20
-pub record Lengths (n : ℕ) (r : Rows) : Type 0 where
-  pub heads : n ≤ length (r .heads)
-  pub flows : n ≤ length (r .flows)
-  pub highest : n ≤ length (r .highest)
-  pub lowest : n ≤ length (r .lowest)
-  pub spare-heads : n ≤ length (r .spareHeads)
-  pub spare-flows : n ≤ length (r .spareFlows)
-
-module _ (n : ℕ) (r : Rows) where
-  pub enough-lengths : enoughLent n r ≡ true → Lengths n r
+  pub enough-each : enoughLent j r ≡ true → Enough j r
   unfolding enoughLent
-  enough-lengths h =
-      let two = leb n (length (r .heads)) && leb n (length (r .flows)) in
-      let three = two && leb n (length (r .highest)) in
-      let four = three && leb n (length (r .lowest)) in
-      let five = four && leb n (length (r .spareHeads)) in
-      let f = both five (leb n (length (r .spareFlows))) h in
-      let e = both four (leb n (length (r .spareHeads))) (f .0) in
-      let d = both three (leb n (length (r .lowest))) (e .0) in
-      let c = both two (leb n (length (r .highest))) (d .0) in
-      let b = both (leb n (length (r .heads))) (leb n (length (r .flows))) (c .0) in
-      record {
-        heads = leb-true _ _ (b .0);
-        flows = leb-true _ _ (b .1);
-        highest = leb-true _ _ (c .1);
-        lowest = leb-true _ _ (d .1);
-        spare-heads = leb-true _ _ (e .1);
-        spare-flows = leb-true _ _ (f .1);
-      }
+  enough-each h x = leb-true _ _ (untupled (λ y. holds-use y ≡ true) (pass-each holds-use allRows h) x)
 
-  pub lengths-enough : Lengths n r → enoughLent n r ≡ true
+  pub each-enough : Enough j r → enoughLent j r ≡ true
   unfolding enoughLent
-  lengths-enough h =
-      rw (le-leb n _ (h .heads), le-leb n _ (h .flows), le-leb n _ (h .highest), le-leb n _ (h .lowest), le-leb n _ (h .spare-heads), le-leb n _ (h .spare-flows))
+  each-enough h = each-pass holds-use (λ x. le-leb _ _ (h x)) allRows
+
+  -- ---- the state in the rows
+
+  pub state-at : (s : ℕ) → s < sections j → pointAt (stateIn j r) s ≡ pointIn r s
+  unfolding stateIn pointAt
+  state-at s h = getD-listed (sections j) (pointIn r) s noPoint h
+
+-- a row that holds a field of the points, read entry by entry
+field-at : (n : ℕ) (f : Point → Float) (row : List Float) (ps : List Point) → f noPoint ≡ zero64 → take n row ≡ map f ps
+    → (s : ℕ) → s < n → getD row s zero64 ≡ f (getD ps s noPoint)
+field-at n f row ps z h s l = sym (getD-take n row s zero64 l) ∙ ap (λ r. getD r s zero64) h ∙ rw (← z) (List·getD-map f ps s noPoint)
+
+module _ (j : Job) (r : Rows) (st : State) (h : Holds j r st) (sized : Sized j st) where
+  pub holds-point : (s : ℕ) → s < sections j → pointIn r s ≡ pointAt st s
+  unfolding pointIn pointAt noPoint holds
+  holds-point s l =
+      let a = field-at (sections j) (λ p. p .head) (r heads) (st .points) refl (h heads refl) s l in
+      let b = field-at (sections j) (λ p. p .flow) (r flows) (st .points) refl (h flows refl) s l in
+      let c = field-at (sections j) (λ p. p .highest) (r highest) (st .points) refl (h highest refl) s l in
+      let d = field-at (sections j) (λ p. p .lowest) (r lowest) (st .points) refl (h lowest refl) s l in
+      λ i. record { head = a i; flow = b i; highest = c i; lowest = d i }
+
+  pub holds-state : stateIn j r ≡ st
+  unfolding stateIn pointAt
+  holds-state =
+      ap (λ (x : List Point). record { points = x })
+      (ext-getD noPoint (listed (sections j) (pointIn r)) (st .points) (length-listed (sections j) (pointIn r) ∙ sym sized)
+      (λ s l. let q : s < sections j = omega (arith, length-listed (sections j) (pointIn r)) in getD-listed (sections j) (pointIn r) s noPoint q ∙ holds-point s q))
+
+take-listed : (n : ℕ) (l : List Float) → n ≤ length l → take n l ≡ listed n (λ s. getD l s zero64)
+take-listed n l h =
+    ext-getD zero64 (take n l) (listed n (λ s. getD l s zero64)) (length-take-le n l h ∙ sym (length-listed n (λ s. getD l s zero64)))
+    (λ s q. let b : s < n = omega (arith, length-take-le n l h) in getD-take n l s zero64 b ∙ sym (getD-listed n (λ s. getD l s zero64) s zero64 b))
+
+-- rows hold the state that is read from them
+pub state-held : (j : Job) (r : Rows) → Enough j r → Holds j r (stateIn j r)
+unfolding holds stateIn pointIn
+state-held j r long =
+    let n = sections j in
+    each _
+    (λ _. take-listed n (r heads) (long heads) ∙ sym (map-listed (λ p. p .head) n (pointIn r)))
+    (λ _. take-listed n (r flows) (long flows) ∙ sym (map-listed (λ p. p .flow) n (pointIn r)))
+    (λ _. take-listed n (r highest) (long highest) ∙ sym (map-listed (λ p. p .highest) n (pointIn r)))
+    (λ _. take-listed n (r lowest) (long lowest) ∙ sym (map-listed (λ p. p .lowest) n (pointIn r)))
+    (λ f. absurd (true≢false (sym f)))
+    (λ f. absurd (true≢false (sym f)))
+
+-- ---- the rows that a call leaves
+
+module _ (j : Job) (st : State) (lent : Rows) where
+  holds-long : Sized j st → (x : Row) → length (holds j st x) ≡ inUse j x
+  unfolding holds
+  holds-long e =
+      let l : (f : Point → Float) → length (map f (st .points)) ≡ sections j = λ f. length-map (st .points) f ∙ e in
+      each _ (l _) (l _) (l _) (l _) (length-replicate _ _) (length-replicate _ _)
+
+  pub rows-hold : Sized j st → (x : Row) → take (inUse j x) (rowsOf j st lent x) ≡ holds j st x
+  unfolding rowsOf
+  rows-hold e x = take-at (holds j st x) (drop (inUse j x) (lent x)) (inUse j x) (holds-long e x)
+
+  -- a row that holds the state, and past the entries in use is as lent
+  pub row-left : (x : Row) (l : List Float) → take (inUse j x) l ≡ holds j st x → drop (inUse j x) l ≡ drop (inUse j x) (lent x) → l ≡ rowsOf j st lent x
+  unfolding rowsOf
+  row-left x l h rest = sym (take-append-drop (inUse j x) l) ∙ ap₂ _++_ h rest
+
+-- ---- a row that a loop fills
+
+pub take-filled : (n : ℕ) (g : ℕ → Float) (l : List Float) → n ≤ length l → take n (fill g l 0 n) ≡ listed n g
+take-filled n g l h =
+    take-listed n (fill g l 0 n) (omega (arith, length-fill g l 0 n))
+    ∙ listed-cong n _ g (λ s b. rw (zero-add s) at (fill-in g l 0 zero64 n s (omega arith) b))
+
+pub listed-same : (n : ℕ) (v : Float) → listed n (λ s. v) ≡ replicate n v
+listed-same n v =
+    ext-getD v (listed n (λ s. v)) (replicate n v) (length-listed n (λ s. v) ∙ sym (length-replicate n v))
+    (λ s q. let b : s < n = omega (arith, length-listed n (λ (s : ℕ). v)) in getD-listed n (λ s. v) s v b ∙ sym (getD-replicate n s v v b))

@@ -31,9 +31,9 @@ first-cong pick start (suc n) v w h = ap₂ pick (first-cong pick start n v w (�
 -- ---- question 22 and the scan
 
 -- of the rows' entries
-pub acceptable-rows : (j : Job) (r : Rows) → acceptable j (stateIn (sections j) r) ≡ allBelow (λ s. acceptableAt (floorAt j s) (pointIn r s)) (sections j)
+pub acceptable-rows : (j : Job) (r : Rows) → acceptable j (stateIn j r) ≡ allBelow (λ s. acceptableAt (floorAt j s) (pointIn r s)) (sections j)
 unfolding acceptable
-acceptable-rows j r = all-cong (sections j) _ _ (λ s l. ap (acceptableAt (floorAt j s)) (state-at (sections j) r s l))
+acceptable-rows j r = all-cong (sections j) _ _ (λ s l. ap (acceptableAt (floorAt j s)) (state-at j r s l))
 
 -- a fault turns on head and flow alone
 pub scan-new : (j : Job) (n : ℕ) (st : State)

@@ -12,6 +12,10 @@ use Rattle.recurrence.specs.Run.{Run, Result, refused, ran, Ending, comp
 use Rattle.recurrence.proofs.Tests.{cond-all}
 use Rattle.recurrence.proofs.Listed.{length-listed}
 
+-- a state with a point for each section
+abbrev pub Sized : Job → State → Type 0
+Sized j st = length (st .points) ≡ sections j
+
 -- ---- the state after m finished steps
 
 abbrev pub Reached : Job → ℕ → State → Type 0
@@ -26,7 +30,7 @@ finished-advanced j n old st e = go (scan j (advanced j n old)) e
     go none e = cc
     go (fault c s) e = cc
 
-finished-sized : (j : Job) (n : ℕ) (old st : State) → step j n old ≡ finished st → length (st .points) ≡ sections j
+finished-sized : (j : Job) (n : ℕ) (old st : State) → step j n old ≡ finished st → Sized j st
 unfolding advanced
 finished-sized j n old st e = rw (← (finished-advanced j n old st e)) (length-listed (sections j) _)
 
@@ -42,7 +46,7 @@ pub record Ran (j : Job) (N m : ℕ) (st : State) : Type 0 where
   pub is : steps j N m st ≡ ran run ending
   pub done : run .done ≡ m + finishedOf j N m st
   pub stands : Reached j m st → Stands j run
-  pub sized : length (st .points) ≡ sections j → length (run .state .points) ≡ sections j
+  pub sized : Sized j st → Sized j (run .state)
 
 pub steps-ran : (j : Job) (N m : ℕ) (st : State) → Ran j N m st
 unfolding steps onward finishedOf oneMore

@@ -1,57 +1,22 @@
 -- The public calls, each on rows that hold what the last one left, come to what the lists of demand 3 come to: by induction over the list. Assumes nothing.
-use mathlib.Core.Path.{_≡_, refl, sym, ap, ap₂, _∙_}
+use mathlib.Core.Path.{_≡_, refl, ap₂, _∙_}
 use mathlib.Core.Bool.{Bool, true, false, cond}
-use mathlib.Core.List.{List, [], _∷_, _++_, map}
-use Prim.Native.Nat.{ℕ, _+_, _<_}
+use mathlib.Core.List.{List, [], _∷_, map}
+use Prim.Native.Nat.{ℕ, _<_}
 use native.Mathlib.Omega.{arith}
 use lib.Dec.{eqb}
-use lib.ListN.{length, getD, take, drop, length-map, List·getD-map}
-use lib.Seq.{take-at, getD-take, ext-getD}
-use lib.Ieee.{Float}
 use borrow.Author.Tests.{ne-eqb, eqb-true, eqb-false}
-use Rattle.fields.specs.Real.{zero64}
 use Rattle.job.specs.Job.{Job, sections, initialAt}
-use Rattle.job.specs.Format.{listed, jobOf}
+use Rattle.job.specs.Format.{jobOf}
 use Rattle.job.specs.Questions.{refusal}
-use Rattle.recurrence.specs.State.{Point, State, noPoint, startPoint, startState}
+use Rattle.recurrence.specs.State.{startPoint, startState}
 use Rattle.recurrence.specs.Scan.{notFinite, parted, causeNumber}
 use Rattle.recurrence.specs.Run.{Run, Result, refused, ran, Ending, completed, stop, stopAnswer, answerOf, ask, started, start, steps, runOn, leftBy, playedFrom, played, answersFrom, answers}
-use Rattle.recurrence.specs.Calls.{Rows, enoughLent, pointIn, stateIn, rowOf, rowsOf, rowsAfter, readFirst, called, startResult, startCall, runOnResult, runOnCall}
+use Rattle.recurrence.specs.Calls.{Rows, enoughLent, stateIn, rowsAfter, readFirst, called, startResult, startCall, runOnResult, runOnCall}
 use Rattle.recurrence.specs.Lent.{LentCall, Held, isRefusal, Started, heldAtStart, answerAt, heldAfter, heldFrom, answersTo, heldBy, answersBy, SameUpTo, Chained, callOf, Holds, CallsTied}
-use Rattle.recurrence.proofs.Listed.{length-listed, getD-listed}
-use Rattle.recurrence.proofs.Runs.{steps-ran, run-on-all, played-counts}
-
--- ---- rows and points
-
--- a row that holds a field of the points, read entry by entry
-field-at : (n : ℕ) (f : Point → Float) (row : List Float) (ps : List Point) → f noPoint ≡ zero64 → take n row ≡ map f ps
-    → (s : ℕ) → s < n → getD row s zero64 ≡ f (getD ps s noPoint)
-field-at n f row ps z h s l = sym (getD-take n row s zero64 l) ∙ ap (λ r. getD r s zero64) h ∙ rw (← z) (List·getD-map f ps s noPoint)
-
-module _ (n : ℕ) (r : Rows) (ps : List Point) (h : Holds n r ps) (long : length ps ≡ n) where
-  pub holds-point : (s : ℕ) → s < n → pointIn r s ≡ getD ps s noPoint
-  unfolding pointIn noPoint
-  holds-point s l =
-      let a = field-at n (λ p. p .head) (r .heads) ps refl (h .heads) s l in
-      let b = field-at n (λ p. p .flow) (r .flows) ps refl (h .flows) s l in
-      let c = field-at n (λ p. p .highest) (r .highest) ps refl (h .highest) s l in
-      let d = field-at n (λ p. p .lowest) (r .lowest) ps refl (h .lowest) s l in
-      λ i. record { head = a i; flow = b i; highest = c i; lowest = d i }
-
-  pub holds-state : stateIn n r ≡ record { points = ps }
-  unfolding stateIn
-  holds-state =
-      ap (λ (x : List Point). record { points = x })
-      (ext-getD noPoint (listed n (pointIn r)) ps (length-listed n (pointIn r) ∙ sym long)
-      (λ s l. let q : s < n = omega (arith, length-listed n (pointIn r)) in getD-listed n (pointIn r) s noPoint q ∙ holds-point s q))
-
--- the rows that an unrefused call leaves hold its points
-pub rows-hold : (n : ℕ) (st : State) (lent : Rows) → length (st .points) ≡ n → Holds n (rowsOf n st lent) (st .points)
-unfolding rowsOf rowOf
-rows-hold n st lent e = record { heads = go _ _; flows = go _ _; highest = go _ _; lowest = go _ _ }
-  where
-    go : (f : Point → Float) (row : List Float) → take n (map f (st .points) ++ drop n row) ≡ map f (st .points)
-    go f row = take-at (map f (st .points)) (drop n row) n (length-map (st .points) f ∙ e)
+use Rattle.recurrence.proofs.Listed.{length-listed}
+use Rattle.recurrence.proofs.RowLaws.{holds-state, rows-hold}
+use Rattle.recurrence.proofs.Runs.{Sized, steps-ran, run-on-all, played-counts}
 
 -- ---- the start
 
@@ -59,23 +24,20 @@ module _ (job : List ℕ) where
   abbrev j : Job
   j = jobOf job
 
-  abbrev n : ℕ
-  n = sections j
-
-  pub start-sized : length (startState j .points) ≡ n
+  pub start-sized : Sized j (startState j)
   unfolding startState
-  start-sized = length-listed n (λ s. startPoint (initialAt j s))
+  start-sized = length-listed (sections j) (λ s. startPoint (initialAt j s))
 
   -- a start that isn't refused: the job is accepted, and enough is lent
   pub record Begun (lent : Rows) : Type 0 where
     pub accepted : refusal job ≡ 0
-    pub enough : enoughLent n lent ≡ true
+    pub enough : enoughLent j lent ≡ true
 
   pub begun : (lent : Rows) → Started job lent → Begun lent
   unfolding startCall startResult called readFirst start ask answerOf
-  begun lent h = go (eqb (refusal job) 0) refl (enoughLent n lent) refl h
+  begun lent h = go (eqb (refusal job) 0) refl (enoughLent j lent) refl h
     where
-      go : (b : Bool) → eqb (refusal job) 0 ≡ b → (e : Bool) → enoughLent n lent ≡ e
+      go : (b : Bool) → eqb (refusal job) 0 ≡ b → (e : Bool) → enoughLent j lent ≡ e
           → answerOf (cond b (ask 20 e (ran (started j) completed)) (refused (refusal job))) .number ≡ 0 → Begun lent
       go true p true q h = record { accepted = eqb-true _ _ p; enough = q }
       go true p false q h = absurd (omega arith)
@@ -85,34 +47,26 @@ module _ (job : List ℕ) where
   -- what a caller holds is what a run has come to
   pub record Follows (h : Held) (r : Run) : Type 0 where
     pub done : h .done ≡ r .done
-    pub rows : Holds n (h .rows) (r .state .points)
-    pub sized : length (r .state .points) ≡ n
+    pub rows : Holds j (h .rows) (r .state)
+    pub sized : Sized j (r .state)
 
   start-follows : (lent : Rows) → Begun lent → Follows (heldAtStart job lent) (started j)
   unfolding heldAtStart startCall startResult called readFirst start ask started rowsAfter
   start-follows lent b =
-      record { done = refl; rows = rw (b .accepted, b .enough) (rows-hold n (startState j) lent start-sized); sized = start-sized }
+      record { done = refl; rows = rw (b .accepted, b .enough) (λ x _. rows-hold j (startState j) lent start-sized x); sized = start-sized }
 
   -- ---- one run-on
 
-  held-in : (a b : Rows) (ps : List Point) → SameUpTo n a b → Holds n b ps → Holds n a ps
-  held-in a b ps s h = record {
-    heads = s .heads ∙ h .heads;
-    flows = s .flows ∙ h .flows;
-    highest = s .highest ∙ h .highest;
-    lowest = s .lowest ∙ h .lowest;
-  }
-
   -- a call refused by question 20 reads no state
-  same-result : refusal job ≡ 0 → (h : Held) (c : LentCall) (r : Run) → Follows h r → (enoughLent n (c .rows) ≡ true → SameUpTo n (c .rows) (h .rows))
+  same-result : refusal job ≡ 0 → (h : Held) (c : LentCall) (r : Run) → Follows h r → (enoughLent j (c .rows) ≡ true → SameUpTo j (c .rows) (h .rows))
       → runOnResult job (h .done) (c .count) (c .rows) ≡ runOn j (callOf job c) r
   unfolding runOnResult readFirst callOf runOn ask
-  same-result ok h c r f s = rw ok (go (enoughLent n (c .rows)) s)
+  same-result ok h c r f s = rw ok (go (enoughLent j (c .rows)) s)
     where
-      go : (b : Bool) → (b ≡ true → SameUpTo n (c .rows) (h .rows))
-          → runOn j record { count = c .count; enough = b } record { done = h .done; state = stateIn n (c .rows) } ≡ runOn j record { count = c .count; enough = b } r
+      go : (b : Bool) → (b ≡ true → SameUpTo j (c .rows) (h .rows))
+          → runOn j record { count = c .count; enough = b } record { done = h .done; state = stateIn j (c .rows) } ≡ runOn j record { count = c .count; enough = b } r
       go true s =
-          let e = holds-state n (c .rows) (r .state .points) (held-in (c .rows) (h .rows) (r .state .points) (s refl) (f .rows)) (f .sized) in
+          let e = holds-state j (c .rows) (r .state) (λ x k. s refl x k ∙ f .rows x k) (f .sized) in
           rw (e, f .done)
       go false s = refl
 
@@ -128,7 +82,7 @@ module _ (job : List ℕ) where
 
   -- what a call of a given result leaves
   abbrev after : Held → LentCall → Result → Held
-  after h c x = cond (isRefusal (answerOf x)) h record { done = answerOf x .steps; rows = rowsAfter n (c .rows) x }
+  after h c x = cond (isRefusal (answerOf x)) h record { done = answerOf x .steps; rows = rowsAfter j (c .rows) x }
 
   after-follows : (h : Held) (c : LentCall) (r : Run) → Follows h r → Follows (after h c (runOn j (callOf job c) r)) (leftBy r (runOn j (callOf job c) r))
   unfolding leftBy rowsAfter callOf
@@ -137,13 +91,13 @@ module _ (job : List ℕ) where
       let w = ran-no-refusal (x .run) (x .ending) in
       let z = x .sized (f .sized) in
       run-on-all (λ y. Follows (after h c y) (leftBy r y)) j (callOf job c) r
-      (rw (x .is, w .0) (record { done = w .1; rows = rows-hold n (x .run .state) (c .rows) z; sized = z }))
+      (rw (x .is, w .0) (record { done = w .1; rows = λ y _. rows-hold j (x .run .state) (c .rows) z y; sized = z }))
       (λ q lo hi. rw (is-refusal q lo hi) f)
 
   -- ---- lists of calls
 
   module _ (ok : refusal job ≡ 0) where
-    call-follows : (h : Held) (c : LentCall) (r : Run) → Follows h r → (enoughLent n (c .rows) ≡ true → SameUpTo n (c .rows) (h .rows))
+    call-follows : (h : Held) (c : LentCall) (r : Run) → Follows h r → (enoughLent j (c .rows) ≡ true → SameUpTo j (c .rows) (h .rows))
         → Follows (heldAfter job h c) (leftBy r (runOn j (callOf job c) r)) × (answerAt job h c ≡ answerOf (runOn j (callOf job c) r))
     unfolding heldAfter answerAt runOnCall called
     call-follows h c r f s = rw (same-result ok h c r f s) (after-follows h c r f, refl)

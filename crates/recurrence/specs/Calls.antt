@@ -1,9 +1,9 @@
--- What each public call does to the six lent rows and what it answers: one definition for each call, refusals included. Definitions only.
-use mathlib.Core.Bool.{Bool, cond, _&&_}
-use mathlib.Core.List.{List, _++_, map}
+-- What each public call does to the lent rows and what it answers: one definition for each call, refusals included. Definitions only.
+use mathlib.Core.Bool.{Bool, true, cond, _&&_}
+use mathlib.Core.List.{List, [], _∷_, _++_, foldr, map}
 use Prim.Native.Nat.{ℕ}
 use lib.Dec.{leb, eqb}
-use lib.ListN.{length, getD, drop}
+use lib.ListN.{length, getD, drop, replicate}
 use lib.Ieee.{Float}
 use Rattle.fields.specs.Real.{zero64}
 use Rattle.job.specs.Job.{Job, sections}
@@ -12,51 +12,78 @@ use Rattle.job.specs.Questions.{refusal}
 use Rattle.recurrence.specs.State.{Point, State}
 use Rattle.recurrence.specs.Run.{Result, refused, ran, Answer, answerOf, start, runOn}
 
--- "Heads, flows, two envelopes and two spare rows are lent slices of f64 numbers, to start and run-on alike."
-pub record Rows : Type 0 where
-  pub heads : List Float
-  pub flows : List Float
-  pub highest : List Float
-  pub lowest : List Float
-  pub spareHeads : List Float
-  pub spareFlows : List Float
+-- "Heads, flows, two envelopes and two spare rows are lent slices of f64 numbers, to start and run-on alike": the name of each, and all of them in the
+-- order in which they are lent.
+pub data Row : Type 0 where
+  heads : Row
+  flows : Row
+  highest : Row
+  lowest : Row
+  spareHeads : Row
+  spareFlows : Row
 
-abbrev pub six : List Float → List Float → List Float → List Float → List Float → List Float → Rows
-six heads flows highest lowest spareHeads spareFlows =
-    record { heads = heads; flows = flows; highest = highest; lowest = lowest; spareHeads = spareHeads; spareFlows = spareFlows }
+abbrev pub allRows : List Row
+allRows = heads ∷ flows ∷ highest ∷ lowest ∷ spareHeads ∷ spareFlows ∷ []
+
+-- what the lent slices hold, each by its name
+abbrev pub Rows : Type 0
+Rows = Row → List Float
+
+-- one thing for each row, in that order, by the row's name
+abbrev pub gathered : {A : Type 0} → A → A → A → A → A → A → Row → A
+gathered h q u l a b heads = h
+gathered h q u l a b flows = q
+gathered h q u l a b highest = u
+gathered h q u l a b lowest = l
+gathered h q u l a b spareHeads = a
+gathered h q u l a b spareFlows = b
+
+-- whether every row passes a test
+abbrev pub every : (Row → Bool) → Bool
+every test = foldr (λ x rest. test x && rest) true allRows
+
+-- how many entries of a row a job uses: "the section count", "the count in use"
+abbrev pub inUse : Job → Row → ℕ
+inUse j heads = sections j
+inUse j flows = sections j
+inUse j highest = sections j
+inUse j lowest = sections j
+inUse j spareHeads = sections j
+inUse j spareFlows = sections j
 
 -- question 20: "does each lent slice hold the section count?"
-unfoldable pub enoughLent : ℕ → Rows → Bool
-enoughLent n r =
-    leb n (length (r .heads)) && leb n (length (r .flows)) && leb n (length (r .highest)) && leb n (length (r .lowest))
-    && leb n (length (r .spareHeads)) && leb n (length (r .spareFlows))
+unfoldable pub enoughLent : Job → Rows → Bool
+enoughLent j r = every (λ x. leb (inUse j x) (length (r x)))
 
--- the state that lent rows hold, n the section count
+-- the state that lent rows hold
 unfoldable pub pointIn : Rows → ℕ → Point
-pointIn r s = record { head = getD (r .heads) s zero64; flow = getD (r .flows) s zero64; highest = getD (r .highest) s zero64; lowest = getD (r .lowest) s zero64 }
-
-unfoldable pub stateIn : ℕ → Rows → State
-stateIn n r = record { points = listed n (pointIn r) }
-
--- A row after an unrefused call: a field of the points up to the section count n; "entries past the count in use are untouched".
-unfoldable pub rowOf : ℕ → State → (Point → Float) → List Float → List Float
-rowOf n st field lent = map field (st .points) ++ drop n lent
-
--- "After an unrefused call both spare rows are +0 up to the section count."
-unfoldable pub rowsOf : ℕ → State → Rows → Rows
-rowsOf n st lent = record {
-  heads = rowOf n st (λ p. p .head) (lent .heads);
-  flows = rowOf n st (λ p. p .flow) (lent .flows);
-  highest = rowOf n st (λ p. p .highest) (lent .highest);
-  lowest = rowOf n st (λ p. p .lowest) (lent .lowest);
-  spareHeads = rowOf n st (λ p. zero64) (lent .spareHeads);
-  spareFlows = rowOf n st (λ p. zero64) (lent .spareFlows);
+pointIn r s = record {
+  head = getD (r heads) s zero64;
+  flow = getD (r flows) s zero64;
+  highest = getD (r highest) s zero64;
+  lowest = getD (r lowest) s zero64;
 }
 
+unfoldable pub stateIn : Job → Rows → State
+stateIn j r = record { points = listed (sections j) (pointIn r) }
+
+-- What a row holds of a state in the entries in use: a field of each point; "after an unrefused call both spare rows are +0 up to the section count".
+unfoldable pub holds : Job → State → Rows
+holds j st heads = map (λ p. p .head) (st .points)
+holds j st flows = map (λ p. p .flow) (st .points)
+holds j st highest = map (λ p. p .highest) (st .points)
+holds j st lowest = map (λ p. p .lowest) (st .points)
+holds j st spareHeads = replicate (inUse j spareHeads) zero64
+holds j st spareFlows = replicate (inUse j spareFlows) zero64
+
+-- The rows after an unrefused call: "entries past the count in use are untouched".
+unfoldable pub rowsOf : Job → State → Rows → Rows
+rowsOf j st lent x = holds j st x ++ drop (inUse j x) (lent x)
+
 -- the rows after a call: as they were where it is refused
-unfoldable pub rowsAfter : ℕ → Rows → Result → Rows
-rowsAfter n lent (refused q) = lent
-rowsAfter n lent (ran r e) = rowsOf n (r .state) lent
+unfoldable pub rowsAfter : Job → Rows → Result → Rows
+rowsAfter j lent (refused q) = lent
+rowsAfter j lent (ran r e) = rowsOf j (r .state) lent
 
 -- What a call leaves in the rows, and its answer.
 pub record Called : Type 0 where
@@ -68,11 +95,11 @@ unfoldable pub readFirst : List ℕ → (Job → Result) → Result
 readFirst bytes call = cond (eqb (refusal bytes) 0) (call (jobOf bytes)) (refused (refusal bytes))
 
 unfoldable pub called : List ℕ → Rows → Result → Called
-called bytes lent x = record { rows = rowsAfter (sections (jobOf bytes)) lent x; answer = answerOf x }
+called bytes lent x = record { rows = rowsAfter (jobOf bytes) lent x; answer = answerOf x }
 
 -- the start: questions 1 to 15, then 20
 unfoldable pub startResult : List ℕ → Rows → Result
-startResult bytes lent = readFirst bytes (λ j. start j (enoughLent (sections j) lent))
+startResult bytes lent = readFirst bytes (λ j. start j (enoughLent j lent))
 
 unfoldable pub startCall : List ℕ → Rows → Called
 startCall bytes lent = called bytes lent (startResult bytes lent)
@@ -80,7 +107,7 @@ startCall bytes lent = called bytes lent (startResult bytes lent)
 -- the run-on with m and N: questions 1 to 15, then 20, 21 and 22
 unfoldable pub runOnResult : List ℕ → ℕ → ℕ → Rows → Result
 runOnResult bytes m N lent =
-    readFirst bytes (λ j. runOn j record { count = N; enough = enoughLent (sections j) lent } record { done = m; state = stateIn (sections j) lent })
+    readFirst bytes (λ j. runOn j record { count = N; enough = enoughLent j lent } record { done = m; state = stateIn j lent })
 
 unfoldable pub runOnCall : List ℕ → ℕ → ℕ → Rows → Called
 runOnCall bytes m N lent = called bytes lent (runOnResult bytes m N lent)

@@ -9,7 +9,7 @@ use Rattle.root.specs.Figures.{P10}
 use Rattle.wave.specs.Figures.{BenchFigures, _is_, num}
 use Rattle.job.proofs.Figures.{jobQ}
 use Rattle.recurrence.specs.Run.{Answer, steps}
-use Rattle.recurrence.specs.Calls.{Rows, six, Called, startCall, runOnCall}
+use Rattle.recurrence.specs.Calls.{heads, flows, Rows, Called, startCall, runOnCall}
 
 -- ---- jobs of bytes, from job Q's
 
@@ -33,9 +33,9 @@ jobQTooOpen = patched jobQ ((213, 64) ∷ [])
 
 -- ---- calls
 
--- six rows of four sevens: job Q and its like have three sections
+-- rows of four sevens: job Q and its like have three sections
 unfoldable pub lentSevens : Rows
-lentSevens = let row = replicate 4 (num 7) in six row row row row row row
+lentSevens x = replicate 4 (num 7)
 
 -- a start in such rows, and a run-on of N steps
 unfoldable pub ranOn : List ℕ → ℕ → Called
@@ -51,11 +51,11 @@ done m = record { number = 0; steps = m; section = 0 }
 
 pub record BenchTable : Type 0 where
   -- "job Q, step 2: section 1 has head 14, flow 0"
-  pub p1-head : getD (ranOn jobQ 2 .rows .heads) 1 zero64 is num 14
-  pub p1-flow : getD (ranOn jobQ 2 .rows .flows) 1 zero64 is num 0
+  pub p1-head : getD (ranOn jobQ 2 .rows heads) 1 zero64 is num 14
+  pub p1-flow : getD (ranOn jobQ 2 .rows flows) 1 zero64 is num 0
   -- "step 3: section 0 flow -4", "step 5: section 2 head 6"
-  pub p2 : getD (ranOn jobQ 3 .rows .flows) 0 zero64 is neg (num 4)
-  pub p3 : getD (ranOn jobQ 5 .rows .heads) 2 zero64 is num 6
+  pub p2 : getD (ranOn jobQ 3 .rows flows) 0 zero64 is neg (num 4)
+  pub p3 : getD (ranOn jobQ 5 .rows heads) 2 zero64 is num 6
   pub p4-to-p9 : BenchFigures
   pub p10 : P10
   -- "Edges: .. a head on its floor runs on; m = 1,000,000 passes with N = 0 only."

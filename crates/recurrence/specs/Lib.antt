@@ -3,6 +3,7 @@ pub mod Step
 pub mod Scan
 pub mod Run
 pub mod Calls
+pub mod Slices
 pub mod Paths
 pub mod Demand
 pub mod Lent

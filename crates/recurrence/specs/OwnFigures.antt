@@ -9,9 +9,9 @@ use Rattle.fields.specs.Real.{zero64, infinity64}
 use Rattle.wave.specs.Figures.{num, halved, power}
 use Rattle.job.specs.Job.{Job, Pipe, Kind, junction, reservoir, valve, ScheduledNode, Initial}
 use Rattle.job.proofs.Figures.{jobQ, jobOfAllKinds}
-use Rattle.recurrence.specs.State.{Point, startState}
+use Rattle.recurrence.specs.State.{startState}
 use Rattle.recurrence.specs.Run.{Answer, answerOf, started, steps, leftBy}
-use Rattle.recurrence.specs.Calls.{Rows, six, Called, startCall, runOnCall}
+use Rattle.recurrence.specs.Calls.{Row, heads, flows, highest, lowest, spareHeads, spareFlows, allRows, Rows, gathered, holds, Called, startCall, runOnCall}
 use Rattle.recurrence.specs.Figures.{jobQOnFloor, jobQClosing, jobQTooOpen, lentSevens, ranOn, refusal, done}
 
 -- ---- what the calls leave in the rows
@@ -23,7 +23,7 @@ row x y z = x ∷ y ∷ z ∷ num 7 ∷ []
 abbrev pub cleared : List Float
 cleared = row (num 0) (num 0) (num 0)
 
--- rows compared by their bits, and what a call leaves and answers by the bits of the six rows
+-- rows compared by their bits, and what a call leaves and answers by the bits of the rows
 abbrev pub patterns : List Float → List ℕ
 patterns xs = map (toBits binary64) xs
 
@@ -32,76 +32,77 @@ abbrev pub _are_ : List Float → List Float → Type 0
 xs are ys = patterns xs ≡ patterns ys
 
 abbrev pub shown : Called → List (List ℕ)
-shown c =
-    patterns (c .rows .heads) ∷ patterns (c .rows .flows) ∷ patterns (c .rows .highest) ∷ patterns (c .rows .lowest)
-    ∷ patterns (c .rows .spareHeads) ∷ patterns (c .rows .spareFlows) ∷ (c .answer .number ∷ c .answer .steps ∷ c .answer .section ∷ []) ∷ []
+shown c = (c .answer .number ∷ c .answer .steps ∷ c .answer .section ∷ []) ∷ map (λ x. patterns (c .rows x)) allRows
 
 abbrev pub _leaves_ : Called → Called → Type 0
 c leaves d = shown c ≡ shown d
 
 pub record RowFigures : Type 0 where
-  pub start : startCall jobQ lentSevens leaves record { rows = six (row (num 10) (num 10) (num 10)) (row (num 4) (num 4) (num 4)) (row (num 10) (num 10) (num 10)) (row (num 10) (num 10) (num 10)) cleared cleared; answer = done 0 }
+  pub start : startCall jobQ lentSevens leaves record { rows = gathered (row (num 10) (num 10) (num 10)) (row (num 4) (num 4) (num 4)) (row (num 10) (num 10) (num 10)) (row (num 10) (num 10) (num 10)) cleared cleared; answer = done 0 }
   -- document 01's listing of job Q
-  pub one-step : ranOn jobQ 1 leaves record { rows = six (row (num 10) (num 10) (num 14)) (row (num 4) (num 4) (num 0)) (row (num 10) (num 10) (num 14)) (row (num 10) (num 10) (num 10)) cleared cleared; answer = done 1 }
+  pub one-step : ranOn jobQ 1 leaves record { rows = gathered (row (num 10) (num 10) (num 14)) (row (num 4) (num 4) (num 0)) (row (num 10) (num 10) (num 14)) (row (num 10) (num 10) (num 10)) cleared cleared; answer = done 1 }
   -- the minimum is lowered
-  pub five-steps : ranOn jobQ 5 leaves record { rows = six (row (num 10) (num 10) (num 6)) (row (neg (num 4)) (neg (num 4)) (num 0)) (row (num 10) (num 14) (num 14)) (row (num 10) (num 10) (num 6)) cleared cleared; answer = done 5 }
+  pub five-steps : ranOn jobQ 5 leaves record { rows = gathered (row (num 10) (num 10) (num 6)) (row (neg (num 4)) (neg (num 4)) (num 0)) (row (num 10) (num 14) (num 14)) (row (num 10) (num 10) (num 6)) cleared cleared; answer = done 5 }
   -- a stop at the fifth step leaves the fourth's state and envelopes
-  pub stop : ranOn jobQOnFloor 9 leaves record { rows = six (row (num 10) (num 10) (num 14)) (row (neg (num 4)) (neg (num 4)) (num 0)) (row (num 10) (num 14) (num 14)) (row (num 10) (num 10) (num 10)) cleared cleared; answer = record { number = 41; steps = 4; section = 2 } }
+  pub stop : ranOn jobQOnFloor 9 leaves record { rows = gathered (row (num 10) (num 10) (num 14)) (row (neg (num 4)) (neg (num 4)) (num 0)) (row (num 10) (num 14) (num 14)) (row (num 10) (num 10) (num 10)) cleared cleared; answer = record { number = 41; steps = 4; section = 2 } }
   -- no step: the spare rows are cleared
-  pub no-step : runOnCall jobQ 3 0 lentSevens leaves record { rows = record { heads = lentSevens .heads; flows = lentSevens .flows; highest = lentSevens .highest; lowest = lentSevens .lowest; spareHeads = cleared; spareFlows = cleared }; answer = done 3 }
+  pub no-step : runOnCall jobQ 3 0 lentSevens leaves record { rows = gathered (lentSevens heads) (lentSevens flows) (lentSevens highest) (lentSevens lowest) cleared cleared; answer = done 3 }
 
 -- ---- refusals: the rows as they were, and the number alone
 
 abbrev pub refusedBy : ℕ → Rows → Called
 refusedBy q lent = record { rows = lent; answer = refusal q }
 
--- rows of four sevens, but for one that has two
-abbrev pub long : List Float
-long = replicate 4 (num 7)
+-- rows of four sevens, but for row x; with two sevens in it; with v for its third entry
+abbrev pub sevens : List Float
+sevens = replicate 4 (num 7)
 
-abbrev pub short : List Float
-short = replicate 2 (num 7)
+abbrev pub sevensBut : Row → List Float → Rows
+sevensBut heads l = gathered l sevens sevens sevens sevens sevens
+sevensBut flows l = gathered sevens l sevens sevens sevens sevens
+sevensBut highest l = gathered sevens sevens l sevens sevens sevens
+sevensBut lowest l = gathered sevens sevens sevens l sevens sevens
+sevensBut spareHeads l = gathered sevens sevens sevens sevens l sevens
+sevensBut spareFlows l = gathered sevens sevens sevens sevens sevens l
 
--- rows of four sevens with x for one of them
-abbrev pub withHead : Float → Rows
-withHead x = six (set long 2 x) long long long long long
+abbrev pub short : Row → Rows
+short x = sevensBut x (replicate 2 (num 7))
+
+abbrev pub holding : Float → Row → Rows
+holding v x = sevensBut x (set sevens 2 v)
 
 pub record RefusalFigures : Type 0 where
-  pub short-heads : runOnCall jobQ 0 1 (six short long long long long long) leaves refusedBy 20 (six short long long long long long)
-  pub short-flows : runOnCall jobQ 0 1 (six long short long long long long) leaves refusedBy 20 (six long short long long long long)
-  pub short-highest : runOnCall jobQ 0 1 (six long long short long long long) leaves refusedBy 20 (six long long short long long long)
-  pub short-lowest : runOnCall jobQ 0 1 (six long long long short long long) leaves refusedBy 20 (six long long long short long long)
-  pub short-spare-heads : runOnCall jobQ 0 1 (six long long long long short long) leaves refusedBy 20 (six long long long long short long)
-  pub short-spare-flows : runOnCall jobQ 0 1 (six long long long long long short) leaves refusedBy 20 (six long long long long long short)
-  pub short-start : startCall jobQ (six long long long long long short) leaves refusedBy 20 (six long long long long long short)
-  -- three entries are enough for three sections
-  pub just-enough : runOnCall jobQ 0 0 (let r = replicate 3 (num 7) in six r r r r r r) .answer ≡ done 0
+  -- question 20, of whichever row: two entries are too few for three sections, three are enough
+  pub short-run-on : (x : Row) → runOnCall jobQ 0 1 (short x) leaves refusedBy 20 (short x)
+  pub short-start : (x : Row) → startCall jobQ (short x) leaves refusedBy 20 (short x)
+  pub just-enough : runOnCall jobQ 0 0 (λ x. replicate 3 (num 7)) .answer ≡ done 0
   -- question 21
   pub m-too-great : runOnCall jobQ 1_000_001 0 lentSevens leaves refusedBy 21 lentSevens
   pub N-too-great : runOnCall jobQ 0 1_000_001 lentSevens leaves refusedBy 21 lentSevens
   pub both-too-great : runOnCall jobQ 999_999 2 lentSevens leaves refusedBy 21 lentSevens
   pub both-great : runOnCall jobQ 999_999 1 lentSevens .answer ≡ done 1_000_000
   -- question 22: each row, and the floor; past the section count nothing is asked
-  pub head-not-finite : runOnCall jobQ 0 0 (withHead nan) leaves refusedBy 22 (withHead nan)
-  pub head-below-floor : runOnCall jobQ 0 0 (withHead (neg (num 1))) leaves refusedBy 22 (withHead (neg (num 1)))
-  pub head-on-floor : runOnCall jobQ 0 0 (withHead (neg (num 0))) .answer ≡ done 0
-  pub flow-not-finite : runOnCall jobQ 0 0 (six long (set long 2 infinity64) long long long long) .answer ≡ refusal 22
-  pub highest-not-finite : runOnCall jobQ 0 0 (six long long (set long 2 infinity64) long long long) .answer ≡ refusal 22
-  pub lowest-not-finite : runOnCall jobQ 0 0 (six long long long (set long 2 (neg infinity64)) long long) .answer ≡ refusal 22
-  pub spare-not-asked : runOnCall jobQ 0 0 (six long long long long (set long 2 nan) long) .answer ≡ done 0
-  pub past-the-count : runOnCall jobQ 0 0 (let r = set long 3 nan in six r r r r r r) .answer ≡ done 0
+  pub head-not-finite : runOnCall jobQ 0 0 (holding nan heads) leaves refusedBy 22 (holding nan heads)
+  pub head-below-floor : runOnCall jobQ 0 0 (holding (neg (num 1)) heads) leaves refusedBy 22 (holding (neg (num 1)) heads)
+  pub head-on-floor : runOnCall jobQ 0 0 (holding (neg (num 0)) heads) .answer ≡ done 0
+  pub flow-not-finite : runOnCall jobQ 0 0 (holding infinity64 flows) .answer ≡ refusal 22
+  pub highest-not-finite : runOnCall jobQ 0 0 (holding infinity64 highest) .answer ≡ refusal 22
+  pub lowest-not-finite : runOnCall jobQ 0 0 (holding (neg infinity64) lowest) .answer ≡ refusal 22
+  pub spare-heads-not-asked : runOnCall jobQ 0 0 (holding nan spareHeads) .answer ≡ done 0
+  pub spare-flows-not-asked : runOnCall jobQ 0 0 (holding nan spareFlows) .answer ≡ done 0
+  pub past-the-count : runOnCall jobQ 0 0 (λ x. set sevens 3 nan) .answer ≡ done 0
   -- "The first no decides": 1 to 15, 20, 21, 22
-  pub fifteen-before-20 : runOnCall jobQTooOpen 0 1 (six short long long long long long) leaves refusedBy 15 (six short long long long long long)
-  pub fifteen-before-20-start : startCall jobQTooOpen (six short long long long long long) leaves refusedBy 15 (six short long long long long long)
-  pub one-before-20 : startCall (take 45 jobQ) (six short long long long long long) .answer ≡ refusal 1
-  pub twenty-before-21 : runOnCall jobQ 1_000_001 0 (six short long long long long long) .answer ≡ refusal 20
-  pub twenty-one-before-22 : runOnCall jobQ 1_000_001 0 (withHead nan) .answer ≡ refusal 21
+  pub fifteen-before-20 : runOnCall jobQTooOpen 0 1 (short heads) leaves refusedBy 15 (short heads)
+  pub fifteen-before-20-start : startCall jobQTooOpen (short heads) leaves refusedBy 15 (short heads)
+  pub one-before-20 : startCall (take 45 jobQ) (short heads) .answer ≡ refusal 1
+  pub twenty-before-21 : runOnCall jobQ 1_000_001 0 (short heads) .answer ≡ refusal 20
+  pub twenty-one-before-22 : runOnCall jobQ 1_000_001 0 (holding nan heads) .answer ≡ refusal 21
 
 -- ---- the steps
 
--- a row of the points after N steps from the start, as bit patterns, and the answer to a run-on of N
-unfoldable pub after : Job → ℕ → (Point → Float) → List ℕ
-after j N field = map (λ p. toBits binary64 (field p)) (leftBy (started j) (steps j N 0 (startState j)) .state .points)
+-- a row after N steps from the start, as bit patterns, and the answer to a run-on of N
+unfoldable pub after : Job → ℕ → Row → List ℕ
+after j N x = patterns (holds j (leftBy (started j) (steps j N 0 (startState j)) .state) x)
 
 unfoldable pub answerAfter : Job → ℕ → Answer
 answerAfter j N = answerOf (steps j N 0 (startState j))
@@ -172,39 +173,27 @@ minusZero =
       initial = zero ∷ zero ∷ [];
     }
 
-abbrev pub head : Point → Float
-head p = p .head
-
-abbrev pub flow : Point → Float
-flow p = p .flow
-
-abbrev pub highest : Point → Float
-highest p = p .highest
-
-abbrev pub lowest : Point → Float
-lowest p = p .lowest
-
 pub record StepFigures : Type 0 where
   -- the valve moves at step 2, not before, and stays: entry n at step n, the last afterwards
-  pub closing-1 : ranOn jobQClosing 1 .rows .heads are row (num 10) (num 10) (num 10)
-  pub closing-2 : ranOn jobQClosing 2 .rows .heads are row (num 10) (num 10) (num 14)
-  pub closing-3 : ranOn jobQClosing 3 .rows .heads are row (num 10) (num 14) (num 14)
+  pub closing-1 : ranOn jobQClosing 1 .rows heads are row (num 10) (num 10) (num 10)
+  pub closing-2 : ranOn jobQClosing 2 .rows heads are row (num 10) (num 10) (num 14)
+  pub closing-3 : ranOn jobQClosing 3 .rows heads are row (num 10) (num 14) (num 14)
   -- and a run-on with m = 1 begins at step 2
-  pub closing-from-1 : runOnCall jobQClosing 1 1 (startCall jobQClosing lentSevens .rows) .rows .heads are row (num 10) (num 10) (num 14)
+  pub closing-from-1 : runOnCall jobQClosing 1 1 (startCall jobQClosing lentSevens .rows) .rows heads are row (num 10) (num 10) (num 14)
   -- R of each reach, S of each pipe, each kind's value of the step
-  pub heads-1 : after twoPipes 1 head ≡ 0x4028_0000_0000_0000 ∷ 0x4020_aaaa_aaaa_aaab ∷ 0x4020_aaaa_aaaa_aaab ∷ 0x4021_0000_0000_0000 ∷ 0x400a_0000_0000_0000 ∷ 0x400b_0e44_3234_05ac ∷ []
-  pub flows-1 : after twoPipes 1 flow ≡ 0x400e_0000_0000_0000 ∷ 0x3ffa_aaaa_aaaa_aaa8 ∷ 0x3ff2_aaaa_aaaa_aab0 ∷ 0x3ff0_0000_0000_0000 ∷ 0x4023_0000_0000_0000 ∷ 0x3ff3_c6ef_372f_e950 ∷ []
-  pub heads-2 : after twoPipes 2 head ≡ 0x4026_0000_0000_0000 ∷ 0x4022_d2aa_aaaa_aaab ∷ 0x4022_d2aa_aaaa_aaab ∷ 0x403a_19c7_1c71_c71c ∷ 0x4019_9566_4b4e_0882 ∷ 0xc053_706e_c89f_940c ∷ []
-  pub flows-2 : after twoPipes 2 flow ≡ 0x400d_1c71_c71c_71c6 ∷ 0x4006_9555_5555_5554 ∷ 0x4002_9555_5555_5558 ∷ 0xc041_8638_e38e_38e4 ∷ 0x4010_d533_6963_eefc ∷ 0xc021_f913_7606_bf40 ∷ []
+  pub heads-1 : after twoPipes 1 heads ≡ 0x4028_0000_0000_0000 ∷ 0x4020_aaaa_aaaa_aaab ∷ 0x4020_aaaa_aaaa_aaab ∷ 0x4021_0000_0000_0000 ∷ 0x400a_0000_0000_0000 ∷ 0x400b_0e44_3234_05ac ∷ []
+  pub flows-1 : after twoPipes 1 flows ≡ 0x400e_0000_0000_0000 ∷ 0x3ffa_aaaa_aaaa_aaa8 ∷ 0x3ff2_aaaa_aaaa_aab0 ∷ 0x3ff0_0000_0000_0000 ∷ 0x4023_0000_0000_0000 ∷ 0x3ff3_c6ef_372f_e950 ∷ []
+  pub heads-2 : after twoPipes 2 heads ≡ 0x4026_0000_0000_0000 ∷ 0x4022_d2aa_aaaa_aaab ∷ 0x4022_d2aa_aaaa_aaab ∷ 0x403a_19c7_1c71_c71c ∷ 0x4019_9566_4b4e_0882 ∷ 0xc053_706e_c89f_940c ∷ []
+  pub flows-2 : after twoPipes 2 flows ≡ 0x400d_1c71_c71c_71c6 ∷ 0x4006_9555_5555_5554 ∷ 0x4002_9555_5555_5558 ∷ 0xc041_8638_e38e_38e4 ∷ 0x4010_d533_6963_eefc ∷ 0xc021_f913_7606_bf40 ∷ []
   pub highest-2 : after twoPipes 2 highest ≡ 0x4028_0000_0000_0000 ∷ 0x4022_d2aa_aaaa_aaab ∷ 0x4022_d2aa_aaaa_aaab ∷ 0x403a_19c7_1c71_c71c ∷ 0x401c_0000_0000_0000 ∷ 0x4018_0000_0000_0000 ∷ []
   pub lowest-2 : after twoPipes 2 lowest ≡ 0x4024_0000_0000_0000 ∷ 0x4020_aaaa_aaaa_aaab ∷ 0x4020_aaaa_aaaa_aaab ∷ 0x4020_0000_0000_0000 ∷ 0x400a_0000_0000_0000 ∷ 0xc053_706e_c89f_940c ∷ []
   -- the sums rise by pipe number
-  pub rising : after threePipes 1 head ≡ 0 ∷ 0x4320_0000_0000_0000 ∷ 0 ∷ 0x4320_0000_0000_0000 ∷ 0 ∷ 0x4320_0000_0000_0000 ∷ []
+  pub rising : after threePipes 1 heads ≡ 0 ∷ 0x4320_0000_0000_0000 ∷ 0 ∷ 0x4320_0000_0000_0000 ∷ 0 ∷ 0x4320_0000_0000_0000 ∷ []
   -- "At one section 40 precedes 41", and sections go upward
   pub both-faults : answerAfter bothFaults 1 ≡ record { number = 40; steps = 0; section = 1 }
   pub faults-upward : answerAfter faultsUpward 1 ≡ record { number = 41; steps = 0; section = 1 }
-  pub all-kinds : runOnCall jobOfAllKinds 0 7 (startCall jobOfAllKinds (let r = replicate 6 zero64 in six r r r r r r) .rows) .answer ≡ record { number = 41; steps = 0; section = 3 }
+  pub all-kinds : runOnCall jobOfAllKinds 0 7 (startCall jobOfAllKinds (λ x. replicate 6 zero64) .rows) .answer ≡ record { number = 41; steps = 0; section = 3 }
   -- -0 is neither greater nor less than +0
-  pub zero-head : after minusZero 1 head ≡ 0x8000_0000_0000_0000 ∷ 0x8000_0000_0000_0000 ∷ []
+  pub zero-head : after minusZero 1 heads ≡ 0x8000_0000_0000_0000 ∷ 0x8000_0000_0000_0000 ∷ []
   pub zero-highest : after minusZero 1 highest ≡ 0 ∷ 0 ∷ []
   pub zero-lowest : after minusZero 1 lowest ≡ 0 ∷ 0 ∷ []

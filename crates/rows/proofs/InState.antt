@@ -1,28 +1,19 @@
--- Rows that hold a state: what is filled in is the row of the new state, and the scan, question 22 and the envelopes are the recurrence's own.
--- Assumes nothing.
+-- Rows that hold a state: the scan, question 22 and the envelopes are the recurrence's own. Assumes nothing.
 use mathlib.Core.Path.{_≡_, refl, sym, ap, _∙_}
-use mathlib.Core.List.{List, _++_, map}
-use Prim.Native.Nat.{ℕ, _≤_, _<_}
-use lib.ListN.{length, drop}
+use mathlib.Core.List.{List}
+use Prim.Native.Nat.{ℕ, _<_}
 use lib.Ieee.{Float}
-use Rattle.loops.specs.Loops.{fill, allBelow}
+use Rattle.loops.specs.Loops.{allBelow}
 use Rattle.wave.specs.declared.HeadFlow.{HeadFlow}
 use Rattle.job.specs.Job.{Job, sections, floorAt}
 use Rattle.recurrence.specs.State.{Point, State, pointAt}
 use Rattle.recurrence.specs.Step.{updated}
 use Rattle.recurrence.specs.Scan.{none, earlier, faultOf, scan, acceptableAt, acceptable}
-use Rattle.recurrence.specs.Calls.{Rows, pointIn, stateIn, rowOf}
-use Rattle.recurrence.proofs.RowLaws.{row-fill}
+use Rattle.recurrence.specs.Calls as row
+use Rattle.recurrence.specs.Calls.{Rows, pointIn, stateIn}
 use Rattle.recurrence.proofs.RunLaws.{all-cong, first-cong, acceptable-rows, fault-of}
 use Rattle.rows.specs.Rows.{entry, raised, lowered}
 use Rattle.rows.specs.Faults.{floorIn, headFlowPoint, faultAt, firstFault, acceptableIn}
-
--- a field of each point stored in a row that past the count n is as lent
-pub filled-row :
-    (n : ℕ) (st : State) (field : Point → Float) (row lent : List Float) → length (st .points) ≡ n → n ≤ length row → drop n row ≡ drop n lent
-    → (g : ℕ → Float) → ((s : ℕ) → s < n → g s ≡ field (pointAt st s)) → fill g row 0 n ≡ rowOf n st field lent
-unfolding rowOf
-filled-row n st field row lent long h rest g e = row-fill n st field row long h g e ∙ ap (λ (l : List Float). map field (st .points) ++ l) rest
 
 -- ---- the envelopes
 
@@ -40,14 +31,14 @@ module _ (new : HeadFlow) (old : Point) where
 module _ (j : Job) (initial : List ℕ) (floors : (s : ℕ) → s < sections j → floorIn initial s ≡ floorAt j s) where
   pub scan-is :
       (heads flows : List Float) (st : State) → ((s : ℕ) → s < sections j → entry heads s ≡ pointAt st s .head)
-      → ((s : ℕ) → s < sections j → entry flows s ≡ pointAt st s .flow) → firstFault initial heads flows (sections j) ≡ scan j st
+      → ((s : ℕ) → s < sections j → entry flows s ≡ pointAt st s .flow) → firstFault initial (sections j) heads flows ≡ scan j st
   unfolding firstFault faultAt scan
   scan-is heads flows st h q =
       first-cong earlier none (sections j) _ _ (λ s l.
       let p = headFlowPoint (entry heads s) (entry flows s) in
       ap (λ (floor : Float). faultOf floor s p) (floors s l) ∙ fault-of (floorAt j s) s p (pointAt st s) (h s l) (q s l))
 
-  pub acceptable-is : (r : Rows) → allBelow (acceptableIn initial (r .heads) (r .flows) (r .highest) (r .lowest)) (sections j) ≡ acceptable j (stateIn (sections j) r)
+  pub acceptable-is : (r : Rows) → allBelow (acceptableIn initial (r row.heads) (r row.flows) (r row.highest) (r row.lowest)) (sections j) ≡ acceptable j (stateIn j r)
   unfolding acceptableIn pointIn
   acceptable-is r =
       all-cong (sections j) _ _ (λ s l. ap (λ (floor : Float). acceptableAt floor (pointIn r s)) (floors s l)) ∙ sym (acceptable-rows j r)

@@ -40,8 +40,8 @@ unfoldable pub soundAt : List ℕ → List Float → List Float → ℕ → Bool
 soundAt initial heads flows s = isSound (faultAt initial heads flows s)
 
 -- "Then scans sections upward": the first fault among the first n sections
-unfoldable pub firstFault : List ℕ → List Float → List Float → ℕ → Fault
-firstFault initial heads flows n = firstBelow earlier none (faultAt initial heads flows) n
+unfoldable pub firstFault : List ℕ → ℕ → List Float → List Float → Fault
+firstFault initial n heads flows = firstBelow earlier none (faultAt initial heads flows) n
 
 -- the fault that an answer of the code stands for
 unfoldable pub foundFault : Scan → Fault

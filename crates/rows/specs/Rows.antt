@@ -20,14 +20,14 @@ lowered lowest head = cond (lt head lowest) head lowest
 
 -- the envelopes of section s
 unfoldable pub raisedAt : List Float → List Float → ℕ → Float
-raisedAt highest heads s = raised (entry highest s) (entry heads s)
+raisedAt heads highest s = raised (entry highest s) (entry heads s)
 
 unfoldable pub loweredAt : List Float → List Float → ℕ → Float
-loweredAt lowest heads s = lowered (entry lowest s) (entry heads s)
+loweredAt heads lowest s = lowered (entry lowest s) (entry heads s)
 
 -- the envelopes of section s over the heads of two steps
 unfoldable pub raisedTwiceAt : List Float → List Float → List Float → ℕ → Float
-raisedTwiceAt highest first second s = raised (raisedAt highest first s) (entry second s)
+raisedTwiceAt first second highest s = raised (raisedAt first highest s) (entry second s)
 
 unfoldable pub loweredTwiceAt : List Float → List Float → List Float → ℕ → Float
-loweredTwiceAt lowest first second s = lowered (loweredAt lowest first s) (entry second s)
+loweredTwiceAt first second lowest s = lowered (loweredAt first lowest s) (entry second s)

@@ -20,29 +20,32 @@ fn lesser(lowest: f64, head: f64) -> f64
 }
 
 // The envelopes over the heads of a step.
-pub fn over_one(highs: &mut [f64], lows: &mut [f64], heads: &[f64], n: usize)
-    requires { ⌜ (n ≤ length (now highs)) × (n ≤ length (now lows)) × (n ≤ length (now heads)) ⌝ }
-    ensures { λ _. ⌜ (now (highs .exit) ≡ fill (row.raisedAt (now (highs .entry)) (now (heads .entry))) (now (highs .entry)) 0 n)
-        × (now (lows .exit) ≡ fill (row.loweredAt (now (lows .entry)) (now (heads .entry))) (now (lows .entry)) 0 n) ⌝ }
+pub fn over_one(n: usize, heads: &[f64], highest: &mut [f64], lowest: &mut [f64])
+    requires { ⌜ (n ≤ length (now heads)) × (n ≤ length (now highest)) × (n ≤ length (now lowest)) ⌝ }
+    ensures { λ _. ⌜ (let new = now (heads .entry) in
+        (now (highest .exit) ≡ fill (row.raisedAt new (now (highest .entry))) (now (highest .entry)) 0 n)
+        × (now (lowest .exit) ≡ fill (row.loweredAt new (now (lowest .entry))) (now (lowest .entry)) 0 n)) ⌝ }
 {
     let mut i = 0;
     while i < n {
-        highs[i] = greater(highs[i], heads[i]);
-        lows[i] = lesser(lows[i], heads[i]);
+        highest[i] = greater(highest[i], heads[i]);
+        lowest[i] = lesser(lowest[i], heads[i]);
         i += 1;
     }
 }
 
 // The envelopes over the heads of two steps, so that each envelope is read and written once for both.
-pub fn over_two(highs: &mut [f64], lows: &mut [f64], first: &[f64], second: &[f64], n: usize)
-    requires { ⌜ (n ≤ length (now highs)) × (n ≤ length (now lows)) × (n ≤ length (now first)) × (n ≤ length (now second)) ⌝ }
-    ensures { λ _. ⌜ (now (highs .exit) ≡ fill (row.raisedTwiceAt (now (highs .entry)) (now (first .entry)) (now (second .entry))) (now (highs .entry)) 0 n)
-        × (now (lows .exit) ≡ fill (row.loweredTwiceAt (now (lows .entry)) (now (first .entry)) (now (second .entry))) (now (lows .entry)) 0 n) ⌝ }
+pub fn over_two(n: usize, first: &[f64], second: &[f64], highest: &mut [f64], lowest: &mut [f64])
+    requires { ⌜ (n ≤ length (now first)) × (n ≤ length (now second))
+        × (n ≤ length (now highest)) × (n ≤ length (now lowest)) ⌝ }
+    ensures { λ _. ⌜ (let new = now (first .entry) in let next = now (second .entry) in
+        (now (highest .exit) ≡ fill (row.raisedTwiceAt new next (now (highest .entry))) (now (highest .entry)) 0 n)
+        × (now (lowest .exit) ≡ fill (row.loweredTwiceAt new next (now (lowest .entry))) (now (lowest .entry)) 0 n)) ⌝ }
 {
     let mut i = 0;
     while i < n {
-        highs[i] = greater(greater(highs[i], first[i]), second[i]);
-        lows[i] = lesser(lesser(lows[i], first[i]), second[i]);
+        highest[i] = greater(greater(highest[i], first[i]), second[i]);
+        lowest[i] = lesser(lesser(lowest[i], first[i]), second[i]);
         i += 1;
     }
 }

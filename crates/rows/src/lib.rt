@@ -1,7 +1,7 @@
 // Loops over lent rows of f64 numbers, one number a section: the kernels of start and run-on.
 ghost use mathlib.Core.Path.{_≡_};
 ghost use mathlib.Core.Bool.{true, _&&_};
-ghost use Prim.Native.Nat.{ℕ, _+_, _-_, _*_, _<_, _≤_};
+ghost use Prim.Native.Nat.{ℕ, _+_, _*_, _≤_};
 ghost use lib.Dec.{eqb};
 ghost use lib.ListN.{length};
 ghost use lib.Ieee.Scale.{finite};
@@ -20,7 +20,7 @@ pub use found::Scan;
 // ---- whole rows
 
 // The first n numbers of a row into another.
-pub fn copy_row(src: &[f64], dst: &mut [f64], n: usize)
+pub fn copy_row(n: usize, src: &[f64], dst: &mut [f64])
     requires { ⌜ (n ≤ length (now src)) × (n ≤ length (now dst)) ⌝ }
     ensures { λ _. ⌜ now (dst .exit) ≡ fill (row.entry (now (src .entry))) (now (dst .entry)) 0 n ⌝ }
 {
@@ -32,7 +32,7 @@ pub fn copy_row(src: &[f64], dst: &mut [f64], n: usize)
 }
 
 // +0 into the first n numbers of a row.
-pub fn clear_row(dst: &mut [f64], n: usize)
+pub fn clear_row(n: usize, dst: &mut [f64])
     requires { ⌜ n ≤ length (now dst) ⌝ }
     ensures { λ _. ⌜ now (dst .exit) ≡ fill (λ (s : ℕ). zero64) (now (dst .entry)) 0 n ⌝ }
 {
@@ -71,9 +71,10 @@ fn unsound(head: f64, flow: f64, floor: f64) -> u64
 
 // 0 exactly where none of the first n sections has a fault: faults are counted, so that the loop has
 // no branch.
-pub fn faults(heads: &[f64], flows: &[f64], initial: &[u8], n: usize) -> u64
+fn faults(initial: &[u8], n: usize, heads: &[f64], flows: &[f64]) -> u64
     requires { ⌜ scan.Covered (now initial) n (now heads) (now flows) ⌝ }
-    ensures { λ r. ⌜ eqb r 0 ≡ allBelow (scan.soundAt (now (initial .entry)) (now (heads .entry)) (now (flows .entry))) n ⌝ }
+    ensures { λ r. ⌜ eqb r 0
+        ≡ allBelow (scan.soundAt (now (initial .entry)) (now (heads .entry)) (now (flows .entry))) n ⌝ }
 {
     let mut bad: u64 = 0;
     let mut i = 0;
@@ -99,9 +100,10 @@ fn fault_of(head: f64, flow: f64, floor: f64, s: usize) -> Scan
 }
 
 // The first of the first n sections that has a fault.
-pub fn first_fault(heads: &[f64], flows: &[f64], initial: &[u8], n: usize) -> Scan
+fn first_fault(initial: &[u8], n: usize, heads: &[f64], flows: &[f64]) -> Scan
     requires { ⌜ scan.Covered (now initial) n (now heads) (now flows) ⌝ }
-    ensures { λ r. ⌜ scan.foundFault r ≡ scan.firstFault (now (initial .entry)) (now (heads .entry)) (now (flows .entry)) n ⌝ }
+    ensures { λ r. ⌜ scan.foundFault r
+        ≡ scan.firstFault (now (initial .entry)) n (now (heads .entry)) (now (flows .entry)) ⌝ }
 {
     let mut s = 0;
     while s < n {
@@ -117,14 +119,15 @@ pub fn first_fault(heads: &[f64], flows: &[f64], initial: &[u8], n: usize) -> Sc
 }
 
 // The scan that a step ends with: the faults are counted, and the first is looked for only where there is one.
-pub fn scan(heads: &[f64], flows: &[f64], initial: &[u8], n: usize) -> Scan
+pub fn scan(initial: &[u8], n: usize, heads: &[f64], flows: &[f64]) -> Scan
     requires { ⌜ scan.Covered (now initial) n (now heads) (now flows) ⌝ }
-    ensures { λ r. ⌜ scan.foundFault r ≡ scan.firstFault (now (initial .entry)) (now (heads .entry)) (now (flows .entry)) n ⌝ }
+    ensures { λ r. ⌜ scan.foundFault r
+        ≡ scan.firstFault (now (initial .entry)) n (now (heads .entry)) (now (flows .entry)) ⌝ }
 {
-    if faults(heads, flows, initial, n) == 0 {
+    if faults(initial, n, heads, flows) == 0 {
         return Scan::Sound;
     }
-    first_fault(heads, flows, initial, n)
+    first_fault(initial, n, heads, flows)
 }
 
 // ---- question 22
@@ -144,16 +147,17 @@ fn acceptable_at(head: f64, flow: f64, highest: f64, lowest: f64, floor: f64) ->
 
 // Question 22 over the first n sections.
 pub fn acceptable(
+    initial: &[u8],
+    n: usize,
     heads: &[f64],
     flows: &[f64],
     highest: &[f64],
     lowest: &[f64],
-    initial: &[u8],
-    n: usize,
 ) -> bool
     requires { ⌜ scan.Covered (now initial) n (now heads) (now flows) ⌝ }
     requires { ⌜ (n ≤ length (now highest)) × (n ≤ length (now lowest)) ⌝ }
-    ensures { λ r. ⌜ r ≡ allBelow (scan.acceptableIn (now (initial .entry)) (now (heads .entry)) (now (flows .entry)) (now (highest .entry)) (now (lowest .entry))) n ⌝ }
+    ensures { λ r. ⌜ r ≡ allBelow (scan.acceptableIn (now (initial .entry))
+        (now (heads .entry)) (now (flows .entry)) (now (highest .entry)) (now (lowest .entry))) n ⌝ }
 {
     let mut s = 0;
     while s < n {

@@ -5,68 +5,40 @@ use mathlib.Core.List.{List}
 use Prim.Native.Nat.{ℕ, _+_, _-_, _≤_}
 use native.Mathlib.Omega.{arith}
 use lib.ListN.{length}
-use Rattle.job.specs.Job.{Job}
+use Rattle.job.specs.Job.{Job, sections}
 use Rattle.job.specs.Format.{jobOf}
 use Rattle.recurrence.specs.State.{State}
 use Rattle.recurrence.specs.Step.{advanced}
 use Rattle.recurrence.specs.Scan.{Cause, fault, notFinite, parted, scan}
 use Rattle.recurrence.specs.Run.{Run, Result, ran, completed, stop, steps}
-use Rattle.recurrence.specs.Calls.{Rows, enoughLent, stateIn}
-use Rattle.recurrence.proofs.RowLaws.{enough-lengths, lengths-enough}
+use Rattle.recurrence.specs.Calls.{Row, Rows, inUse, stateIn}
+use Rattle.recurrence.proofs.EachRow.{Each, untupled, tuple}
+use Rattle.recurrence.proofs.RowLaws.{Enough, enough-each, each-enough}
 use Rattle.recurrence.proofs.RunLaws.{steps-on, steps-stop, andThen, steps-join, steps-count}
 use Rattle.rows.specs.declared.found.Scan.{Scan}
 use Rattle.rows.specs.declared.found.Scan.the-variants.{Sound, NotFinite, Parted}
 use Rattle.rows.specs.Faults.{foundFault}
 use Rattle.steps.specs.declared.Ended.{Ended}
-use Rattle.steps.specs.Steps.{SameRest, stops, endingOf, resultOf, Runs}
+use Rattle.steps.specs.Steps.{Ready, stops, endingOf, resultOf, Runs}
 
--- ---- rows that keep their lengths, and what stands past the section count
+-- ---- rows that keep their lengths
 
-pub record SameSizes (before after : Rows) : Type 0 where
-  pub heads-size : length (after .heads) ≡ length (before .heads)
-  pub flows-size : length (after .flows) ≡ length (before .flows)
-  pub highest-size : length (after .highest) ≡ length (before .highest)
-  pub lowest-size : length (after .lowest) ≡ length (before .lowest)
-  pub spare-heads-size : length (after .spareHeads) ≡ length (before .spareHeads)
-  pub spare-flows-size : length (after .spareFlows) ≡ length (before .spareFlows)
+abbrev pub SameSize : Rows → Rows → Row → Type 0
+SameSize before after x = length (after x) ≡ length (before x)
 
-pub sizes-refl : (r : Rows) → SameSizes r r
-sizes-refl r = record { heads-size = refl; flows-size = refl; highest-size = refl; lowest-size = refl; spare-heads-size = refl; spare-flows-size = refl }
+abbrev pub SameSizes : Rows → Rows → Type 0
+SameSizes before after = Each (SameSize before after)
 
-pub sizes-join : (a b c : Rows) → SameSizes a b → SameSizes b c → SameSizes a c
-sizes-join a b c x y = record {
-  heads-size = y .heads-size ∙ x .heads-size;
-  flows-size = y .flows-size ∙ x .flows-size;
-  highest-size = y .highest-size ∙ x .highest-size;
-  lowest-size = y .lowest-size ∙ x .lowest-size;
-  spare-heads-size = y .spare-heads-size ∙ x .spare-heads-size;
-  spare-flows-size = y .spare-flows-size ∙ x .spare-flows-size;
-}
+-- question 20 row by row, and of a row of which n entries are in use
+pub ready-enough : {job : List ℕ} {n : ℕ} {r : Rows} → Ready job n r → Enough (jobOf job) r
+ready-enough k = enough-each _ _ (k .enough)
 
-pub enough-kept : (n : ℕ) (a b : Rows) → SameSizes a b → enoughLent n a ≡ true → enoughLent n b ≡ true
-enough-kept n a b z e =
-    let l = enough-lengths n a e in
-    lengths-enough n b record {
-      heads = omega arith;
-      flows = omega arith;
-      highest = omega arith;
-      lowest = omega arith;
-      spare-heads = omega arith;
-      spare-flows = omega arith;
-    }
+pub ready-long : {job : List ℕ} {n : ℕ} {r : Rows} → Ready job n r → (x : Row) → inUse (jobOf job) x ≡ sections (jobOf job) → n ≤ length (r x)
+ready-long k x e = omega (arith, e, k .count, ready-enough k x)
 
-rest-refl : (n : ℕ) (r : Rows) → SameRest n r r
-rest-refl n r = record { heads = refl; flows = refl; highest = refl; lowest = refl; spare-heads = refl; spare-flows = refl }
-
-rest-join : (n : ℕ) (a b c : Rows) → SameRest n a b → SameRest n b c → SameRest n a c
-rest-join n a b c x y = record {
-  heads = y .heads ∙ x .heads;
-  flows = y .flows ∙ x .flows;
-  highest = y .highest ∙ x .highest;
-  lowest = y .lowest ∙ x .lowest;
-  spare-heads = y .spare-heads ∙ x .spare-heads;
-  spare-flows = y .spare-flows ∙ x .spare-flows;
-}
+pub ready-kept : {job : List ℕ} {n : ℕ} {a : Rows} (b : Rows) → SameSizes a b → Ready job n a → Ready job n b
+ready-kept {a = a} b z k =
+    record { accepted = k .accepted; count = k .count; enough = each-enough _ b (λ x. omega (arith, untupled (SameSize a b) z x, ready-enough k x)) }
 
 -- ---- what a scan found
 
@@ -128,51 +100,60 @@ module _ (j : Job) (m a : ℕ) (st new : State) (ended : Ended) (first : resultO
 
 -- ---- steps over the rows
 
-module _ (job : List ℕ) (n m : ℕ) (r : Rows) where
-  pub runs-none : Runs job n m 0 r r record { steps = m; found = Sound }
+module _ (job : List ℕ) (m : ℕ) (r : Rows) where
+  abbrev j : Job
+  j = jobOf job
+
+  pub runs-none : Runs job m 0 r r record { steps = m; found = Sound }
   unfolding resultOf endingOf steps
-  runs-none = record { result-is = refl; rest = rest-refl n r }
+  runs-none = record { result-is = refl; rest = λ x. refl }
 
-  module _ {a : ℕ} {x : Rows} {ended : Ended} (first : Runs job n m a r x ended) where
-    pub runs-more : {b k : ℕ} {y : Rows} {last : Ended} → stops (ended .found) ≡ false → ended .steps ≡ k → Runs job n k b x y last → Runs job n m (a + b) r y last
-    runs-more {b} {y = y} s e next = record { result-is = steps-more (jobOf job) m a (stateIn n r) (stateIn n x) ended (first .result-is) b s e (next .result-is); rest = rest-join n r x y (first .rest) (next .rest) }
+  module _ {a : ℕ} {x : Rows} {ended : Ended} (first : Runs job m a r x ended) where
+    pub runs-more : {b k : ℕ} {y : Rows} {last : Ended} → stops (ended .found) ≡ false → ended .steps ≡ k → Runs job k b x y last → Runs job m (a + b) r y last
+    runs-more {b} s e next = record {
+      result-is = steps-more j m a (stateIn j r) (stateIn j x) ended (first .result-is) b s e (next .result-is);
+      rest = λ y. next .rest y ∙ first .rest y;
+    }
 
-    pub runs-end : (b : ℕ) → stops (ended .found) ≡ true → Runs job n m (a + b) r x ended
-    runs-end b s = record { result-is = steps-end (jobOf job) m a (stateIn n r) (stateIn n x) ended (first .result-is) b s; rest = first .rest }
+    pub runs-end : (b : ℕ) → stops (ended .found) ≡ true → Runs job m (a + b) r x ended
+    runs-end b s = record { result-is = steps-end j m a (stateIn j r) (stateIn j x) ended (first .result-is) b s; rest = first .rest }
 
 -- ---- a run after i of its steps
 
-pub record Underway (job : List ℕ) (n done count i : ℕ) (before now : Rows) : Type 0 where
+pub record Underway (job : List ℕ) (done count i : ℕ) (before now : Rows) : Type 0 where
   pub within : i ≤ count
   pub sizes : SameSizes before now
-  pub runs : Runs job n done i before now record { steps = done + i; found = Sound }
+  pub runs : Runs job done i before now record { steps = done + i; found = Sound }
 
-module _ (job : List ℕ) (n done count : ℕ) (r : Rows) where
-  pub way-none : Underway job n done count 0 r r
-  way-none = record { within = omega arith; sizes = sizes-refl r; runs = let z : done + 0 ≡ done = omega arith in rw z (runs-none job n done r) }
+module _ (job : List ℕ) (done count : ℕ) (r : Rows) where
+  pub way-none : Underway job done count 0 r r
+  way-none = record { within = omega arith; sizes = tuple (SameSize r r) (λ x. refl); runs = let z : done + 0 ≡ done = omega arith in rw z (runs-none job done r) }
 
-  module _ {i : ℕ} {a : Rows} (u : Underway job n done count i r a) where
+  module _ {i : ℕ} {a : Rows} (u : Underway job done count i r a) where
+    pub way-ready : {n : ℕ} → Ready job n r → Ready job n a
+    way-ready = ready-kept a (u .sizes)
+
     -- k steps more
-    on : {b : Rows} {k : ℕ} {ended : Ended} → Runs job n (done + i) k a b ended → Runs job n done (i + k) r b ended
+    on : {b : Rows} {k : ℕ} {ended : Ended} → Runs job (done + i) k a b ended → Runs job done (i + k) r b ended
     unfolding stops
-    on next = runs-more job n done r (u .runs) refl refl next
+    on next = runs-more job done r (u .runs) refl refl next
 
-    pub way-next : {b : Rows} {k : ℕ} {ended : Ended} → i + k ≤ count → SameSizes a b → stops (ended .found) ≡ false → Runs job n (done + i) k a b ended → Underway job n done count (i + k) r b
+    pub way-next : {b : Rows} {k : ℕ} {ended : Ended} → Runs job (done + i) k a b ended → i + k ≤ count → SameSizes a b → stops (ended .found) ≡ false → Underway job done count (i + k) r b
     unfolding resultOf
-    way-next {b} {k} {ended} h z s next =
-        let all : ended .steps ≡ done + (i + k) = steps-all (jobOf job) (done + i) k (stateIn n a) (stateIn n b) ended (next .result-is) s ∙ (let e : done + i + k ≡ done + (i + k) = omega arith in e) in
+    way-next {b} {k} {ended} next h z s =
+        let all : ended .steps ≡ done + (i + k) = steps-all (jobOf job) (done + i) k (stateIn (jobOf job) a) (stateIn (jobOf job) b) ended (next .result-is) s ∙ (let e : done + i + k ≡ done + (i + k) = omega arith in e) in
         record {
           within = h;
-          sizes = sizes-join r a b (u .sizes) z;
+          sizes = tuple (SameSize r b) (λ x. untupled (SameSize a b) z x ∙ untupled (SameSize r a) (u .sizes) x);
           runs = record { result-is = rw (sound (ended .found) s, all) at (on next .result-is); rest = on next .rest };
         }
 
-    pub way-stop : {b : Rows} {k : ℕ} {ended : Ended} → i + k ≤ count → stops (ended .found) ≡ true → Runs job n (done + i) k a b ended → Runs job n done count r b ended
+    pub way-stop : {b : Rows} {k : ℕ} {ended : Ended} → i + k ≤ count → stops (ended .found) ≡ true → Runs job (done + i) k a b ended → Runs job done count r b ended
     way-stop {b} {k} {ended} h s next =
-        let e : i + k + (count - (i + k)) ≡ count = omega arith in rw e at (runs-end job n done r (on next) (count - (i + k)) s)
+        let e : i + k + (count - (i + k)) ≡ count = omega arith in rw e at (runs-end job done r (on next) (count - (i + k)) s)
 
-    pub way-last : {b : Rows} {k : ℕ} {ended : Ended} → i + k ≡ count → Runs job n (done + i) k a b ended → Runs job n done count r b ended
+    pub way-last : {b : Rows} {k : ℕ} {ended : Ended} → i + k ≡ count → Runs job (done + i) k a b ended → Runs job done count r b ended
     way-last e next = rw e at (on next)
 
-    pub way-done : count ≤ i → Runs job n done count r a record { steps = done + i; found = Sound }
-    way-done h = subst (λ (k : ℕ). Runs job n done k r a record { steps = done + i; found = Sound }) (let e : i ≡ count = omega (arith, u .within) in e) (u .runs)
+    pub way-done : count ≤ i → Runs job done count r a record { steps = done + i; found = Sound }
+    way-done h = subst (λ (k : ℕ). Runs job done k r a record { steps = done + i; found = Sound }) (let e : i ≡ count = omega (arith, u .within) in e) (u .runs)

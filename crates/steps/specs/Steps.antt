@@ -4,31 +4,26 @@ use mathlib.Core.Bool.{Bool, true, false}
 use mathlib.Core.List.{List}
 use Prim.Native.Nat.{ℕ}
 use lib.ListN.{drop}
-use Rattle.job.specs.Job.{sections}
+use Rattle.job.specs.Job.{Job, sections}
 use Rattle.job.specs.Format.{jobOf}
 use Rattle.job.specs.Questions.{Accepted}
 use Rattle.recurrence.specs.State.{State}
 use Rattle.recurrence.specs.Scan.{notFinite, parted}
 use Rattle.recurrence.specs.Run.{Ending, completed, stop, Result, ran, steps}
-use Rattle.recurrence.specs.Calls.{Rows, enoughLent, stateIn}
+use Rattle.recurrence.specs.Calls.{Row, Rows, inUse, enoughLent, stateIn}
 use Rattle.rows.specs.declared.found.Scan.{Scan}
 use Rattle.rows.specs.declared.found.Scan.the-variants.{Sound, NotFinite, Parted}
 use Rattle.steps.specs.declared.Ended.{Ended}
 
--- an accepted job of n sections, with enough lent for each
+-- an accepted job of n sections, with a yes to question 20
 pub record Ready (job : List ℕ) (n : ℕ) (rows : Rows) : Type 0 where
   pub accepted : Accepted job
   pub count : n ≡ sections (jobOf job)
-  pub enough : enoughLent n rows ≡ true
+  pub enough : enoughLent (jobOf job) rows ≡ true
 
--- past the first n entries each row is as it was
-pub record SameRest (n : ℕ) (before after : Rows) : Type 0 where
-  pub heads : drop n (after .heads) ≡ drop n (before .heads)
-  pub flows : drop n (after .flows) ≡ drop n (before .flows)
-  pub highest : drop n (after .highest) ≡ drop n (before .highest)
-  pub lowest : drop n (after .lowest) ≡ drop n (before .lowest)
-  pub spare-heads : drop n (after .spareHeads) ≡ drop n (before .spareHeads)
-  pub spare-flows : drop n (after .spareFlows) ≡ drop n (before .spareFlows)
+-- past the entries in use each row is as it was
+abbrev pub SameRest : Job → Rows → Rows → Type 0
+SameRest j before after = (x : Row) → drop (inUse j x) (after x) ≡ drop (inUse j x) (before x)
 
 -- whether a scan found a fault
 unfoldable pub stops : Scan → Bool
@@ -45,7 +40,7 @@ endingOf (Parted s) = stop parted s
 unfoldable pub resultOf : Ended → State → Result
 resultOf e st = ran record { done = e .steps; state = st } (endingOf (e .found))
 
--- some steps over the rows: what they come to, and nothing past the section count
-pub record Runs (job : List ℕ) (n done count : ℕ) (before after : Rows) (ended : Ended) : Type 0 where
-  pub result-is : resultOf ended (stateIn n after) ≡ steps (jobOf job) count done (stateIn n before)
-  pub rest : SameRest n before after
+-- some steps over the rows: what they come to, and nothing past the entries in use
+pub record Runs (job : List ℕ) (done count : ℕ) (before after : Rows) (ended : Ended) : Type 0 where
+  pub result-is : resultOf ended (stateIn (jobOf job) after) ≡ steps (jobOf job) count done (stateIn (jobOf job) before)
+  pub rest : SameRest (jobOf job) before after

@@ -2,7 +2,7 @@
 ghost use mathlib.Core.Path.{_≡_};
 ghost use Prim.Native.Nat.{_+_, _≤_};
 ghost use Rattle.march.specs.March.{constantSums};
-ghost use Rattle.recurrence.specs.Calls.{six};
+ghost use Rattle.recurrence.specs.Slices.{lent, before, after};
 ghost use Rattle.steps.specs.Steps.{Ready, Runs};
 
 pub mod step;
@@ -30,8 +30,11 @@ pub fn run(
     spare_heads: &mut [f64],
     spare_flows: &mut [f64],
 ) -> Ended
-    requires { ⌜ (Ready (now job) n (six (now heads) (now flows) (now highest) (now lowest) (now «spare_heads») (now «spare_flows»))) × (done + count ≤ 1000000) × (now t ≡ constantSums (now job)) ⌝ }
-    ensures { λ r. ⌜ Runs (now (job .entry)) n done count (six (now (heads .entry)) (now (flows .entry)) (now (highest .entry)) (now (lowest .entry)) (now («spare_heads» .entry)) (now («spare_flows» .entry))) (six (now (heads .exit)) (now (flows .exit)) (now (highest .exit)) (now (lowest .exit)) (now («spare_heads» .exit)) (now («spare_flows» .exit))) r ⌝ }
+    requires { ⌜ (Ready (now job) n (lent heads flows highest lowest «spare_heads» «spare_flows»))
+        × (done + count ≤ 1000000) × (now t ≡ constantSums (now job)) ⌝ }
+    ensures { λ r. ⌜ Runs (now (job .entry)) done count
+        (before heads flows highest lowest «spare_heads» «spare_flows»)
+        (after heads flows highest lowest «spare_heads» «spare_flows») r ⌝ }
 {
     let mut i = 0;
     while i + 1 < count {
@@ -67,8 +70,9 @@ pub fn run(
             spare_flows,
         );
     }
+    let steps = done + i;
     Ended {
-        steps: done + i,
+        steps,
         found: Scan::Sound,
     }
 }

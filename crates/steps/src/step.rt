@@ -1,14 +1,15 @@
-// One step or two over the six rows.
+// One step or two over the lent rows.
 ghost use mathlib.Core.Path.{_≡_};
-ghost use Prim.Native.Nat.{ℕ, _+_, _≤_};
+ghost use Prim.Native.Nat.{_+_, _≤_};
 ghost use lib.ListN.{length};
 ghost use Rattle.loops.specs.Loops.{fill};
 ghost use Rattle.job.specs.Job.{sections};
 ghost use Rattle.job.specs.Format.{jobOf, initialTable};
 ghost use Rattle.rows.specs.Rows.{entry};
 ghost use Rattle.rows.specs.Faults.{foundFault, firstFault};
+ghost use Rattle.sweep.specs.Sweep.{WrittenRows};
 ghost use Rattle.march.specs.March.{Lent, constantSums, newSection};
-ghost use Rattle.recurrence.specs.Calls.{six};
+ghost use Rattle.recurrence.specs.Slices.{lent, before, after};
 ghost use Rattle.steps.specs.Steps as inner;
 use super::Ended;
 use rows::Scan;
@@ -37,22 +38,24 @@ fn work_out(
 ) -> Scan
     requires { ⌜ (Lent (now job) (now heads) (now flows)) × (1 ≤ step) × (now t ≡ constantSums (now job)) ⌝ }
     requires { ⌜ (n ≡ sections (jobOf (now job))) × (n ≤ length (now «new_heads»)) × (n ≤ length (now «new_flows»)) ⌝ }
-    ensures { λ found. ⌜ (now («new_heads» .exit) ≡ fill (λ (s : ℕ). newSection (now (job .entry)) step (now (heads .entry)) (now (flows .entry)) s .head) (now («new_heads» .entry)) 0 (sections (jobOf (now (job .entry)))))
-        × (now («new_flows» .exit) ≡ fill (λ (s : ℕ). newSection (now (job .entry)) step (now (heads .entry)) (now (flows .entry)) s .flow) (now («new_flows» .entry)) 0 (sections (jobOf (now (job .entry)))))
-        × (foundFault found ≡ firstFault (initialTable (now (job .entry))) (now («new_heads» .exit)) (now («new_flows» .exit)) n) ⌝ }
+    ensures { λ found. ⌜ (WrittenRows (newSection (now (job .entry)) step (now (heads .entry)) (now (flows .entry)))
+        0 (sections (jobOf (now (job .entry)))) «new_heads» «new_flows»)
+        × (foundFault found
+        ≡ firstFault (initialTable (now (job .entry))) n (now («new_heads» .exit)) (now («new_flows» .exit))) ⌝ }
 {
     march::pipes::work_out(job, step, t, heads, flows, new_heads, new_flows);
-    rows::scan(new_heads, new_flows, job::pairs::table(job, 3), n)
+    rows::scan(job::pairs::table(job, 3), n, new_heads, new_flows)
 }
 
 // The state out of the spare rows into the rows of heads and flows.
 fn take_over(n: usize, new_heads: &[f64], new_flows: &[f64], heads: &mut [f64], flows: &mut [f64])
-    requires { ⌜ (n ≤ length (now «new_heads»)) × (n ≤ length (now «new_flows»)) × (n ≤ length (now heads)) × (n ≤ length (now flows)) ⌝ }
+    requires { ⌜ (n ≤ length (now «new_heads»)) × (n ≤ length (now «new_flows»))
+        × (n ≤ length (now heads)) × (n ≤ length (now flows)) ⌝ }
     ensures { λ _. ⌜ (now (heads .exit) ≡ fill (entry (now («new_heads» .entry))) (now (heads .entry)) 0 n)
         × (now (flows .exit) ≡ fill (entry (now («new_flows» .entry))) (now (flows .entry)) 0 n) ⌝ }
 {
-    rows::copy_row(new_heads, heads, n);
-    rows::copy_row(new_flows, flows, n);
+    rows::copy_row(n, new_heads, heads);
+    rows::copy_row(n, new_flows, flows);
 }
 
 // The step after `done` steps of a job of n sections; t has T of each node.
@@ -68,18 +71,22 @@ pub fn one_step(
     spare_heads: &mut [f64],
     spare_flows: &mut [f64],
 ) -> Ended
-    requires { ⌜ (inner.Ready (now job) n (six (now heads) (now flows) (now highest) (now lowest) (now «spare_heads») (now «spare_flows»))) × (done + 1 ≤ 1000000) × (now t ≡ constantSums (now job)) ⌝ }
-    ensures { λ r. ⌜ inner.Runs (now (job .entry)) n done 1 (six (now (heads .entry)) (now (flows .entry)) (now (highest .entry)) (now (lowest .entry)) (now («spare_heads» .entry)) (now («spare_flows» .entry))) (six (now (heads .exit)) (now (flows .exit)) (now (highest .exit)) (now (lowest .exit)) (now («spare_heads» .exit)) (now («spare_flows» .exit))) r ⌝ }
+    requires { ⌜ (inner.Ready (now job) n (lent heads flows highest lowest «spare_heads» «spare_flows»))
+        × (done + 1 ≤ 1000000) × (now t ≡ constantSums (now job)) ⌝ }
+    ensures { λ r. ⌜ inner.Runs (now (job .entry)) done 1
+        (before heads flows highest lowest «spare_heads» «spare_flows»)
+        (after heads flows highest lowest «spare_heads» «spare_flows») r ⌝ }
 {
-    let step = (done + 1) as usize;
+    let after = done + 1;
+    let step = after as usize;
     let found = work_out(job, n, step, t, heads, flows, spare_heads, spare_flows);
     if stops(found) {
         return Ended { steps: done, found };
     }
-    rows::envelopes::over_one(highest, lowest, spare_heads, n);
+    rows::envelopes::over_one(n, spare_heads, highest, lowest);
     take_over(n, spare_heads, spare_flows, heads, flows);
     Ended {
-        steps: done + 1,
+        steps: after,
         found,
     }
 }
@@ -98,10 +105,16 @@ pub fn two_steps(
     spare_heads: &mut [f64],
     spare_flows: &mut [f64],
 ) -> Ended
-    requires { ⌜ (inner.Ready (now job) n (six (now heads) (now flows) (now highest) (now lowest) (now «spare_heads») (now «spare_flows»))) × (done + 2 ≤ 1000000) × (now t ≡ constantSums (now job)) ⌝ }
-    ensures { λ r. ⌜ inner.Runs (now (job .entry)) n done 2 (six (now (heads .entry)) (now (flows .entry)) (now (highest .entry)) (now (lowest .entry)) (now («spare_heads» .entry)) (now («spare_flows» .entry))) (six (now (heads .exit)) (now (flows .exit)) (now (highest .exit)) (now (lowest .exit)) (now («spare_heads» .exit)) (now («spare_flows» .exit))) r ⌝ }
+    requires { ⌜ (inner.Ready (now job) n (lent heads flows highest lowest «spare_heads» «spare_flows»))
+        × (done + 2 ≤ 1000000) × (now t ≡ constantSums (now job)) ⌝ }
+    ensures { λ r. ⌜ inner.Runs (now (job .entry)) done 2
+        (before heads flows highest lowest «spare_heads» «spare_flows»)
+        (after heads flows highest lowest «spare_heads» «spare_flows») r ⌝ }
 {
-    let step = (done + 1) as usize;
+    let after_one = done + 1;
+    let after_two = done + 2;
+    let step = after_one as usize;
+    let next = step + 1;
     let first = work_out(job, n, step, t, heads, flows, spare_heads, spare_flows);
     if stops(first) {
         return Ended {
@@ -109,18 +122,18 @@ pub fn two_steps(
             found: first,
         };
     }
-    let second = work_out(job, n, step + 1, t, spare_heads, spare_flows, heads, flows);
+    let second = work_out(job, n, next, t, spare_heads, spare_flows, heads, flows);
     if stops(second) {
-        rows::envelopes::over_one(highest, lowest, spare_heads, n);
+        rows::envelopes::over_one(n, spare_heads, highest, lowest);
         take_over(n, spare_heads, spare_flows, heads, flows);
         return Ended {
-            steps: done + 1,
+            steps: after_one,
             found: second,
         };
     }
-    rows::envelopes::over_two(highest, lowest, spare_heads, heads, n);
+    rows::envelopes::over_two(n, spare_heads, heads, highest, lowest);
     Ended {
-        steps: done + 2,
+        steps: after_two,
         found: second,
     }
 }

@@ -1,33 +1,41 @@
--- What a call leaves in the six rows, and its answer: refused, begun, or run on. Assumes nothing.
+-- What a call leaves in the rows, and its answer: refused, begun, or run on. Assumes nothing.
 use mathlib.Core.Path.{_≡_, refl, sym, ap, _∙_}
-use mathlib.Core.Bool.{true, false}
-use mathlib.Core.List.{List, _++_, map}
-use Prim.Native.Nat.{ℕ, _+_, _-_, _≤_, _<_}
+use mathlib.Core.Bool.{Bool, true, false}
+use mathlib.Core.List.{List, map}
+use Prim.Native.Nat.{ℕ, _+_, _-_, _≤_}
 use native.Mathlib.Omega.{arith}
 use lib.Dec.{leb}
-use lib.ListN.{length, getD, drop}
+use lib.ListN.{length, take, drop}
 use lib.Ieee.{Float}
 use borrow.Author.Tests.{eq-eqb, ne-eqb, leb-true}
 use Rattle.fields.specs.Real.{zero64}
 use Rattle.loops.specs.Loops.{fill}
 use Rattle.job.specs.Job.{Job, sections, initialAt}
-use Rattle.job.specs.Format.{jobOf}
+use Rattle.job.specs.Format.{listed, jobOf}
 use Rattle.job.specs.Questions.{refusal, Accepted}
-use Rattle.job.proofs.Listed.{getD-listed, length-listed}
-use Rattle.recurrence.specs.State.{Point, pointAt, noPoint, startPoint, startState}
+use Rattle.recurrence.specs.State.{Point, State, startPoint, startState}
 use Rattle.recurrence.specs.Scan.{acceptable}
 use Rattle.recurrence.specs.Run.{Result, refused, ran, completed, answerOf, ask, started, start, steps, withinLimit, runOn}
-use Rattle.recurrence.specs.Calls.{Rows, enoughLent, pointIn, stateIn, rowOf, rowsOf, rowsAfter, readFirst, called, startResult, startCall, runOnResult, runOnCall, six}
+use Rattle.recurrence.specs.Calls as row
+use Rattle.recurrence.specs.Calls.{Row, Rows, gathered, every, inUse, enoughLent, stateIn, holds, rowsOf, rowsAfter, readFirst, called, startResult, startCall, runOnResult, runOnCall}
+use Rattle.recurrence.specs.Lent.{carried}
 use Rattle.recurrence.proofs.Tests.{both}
-use Rattle.recurrence.proofs.RowLaws.{state-at, state-long, row-same, Lengths}
-use Rattle.rows.proofs.InState.{filled-row}
+use Rattle.recurrence.proofs.Listed.{map-listed}
+use Rattle.recurrence.proofs.EachRow.{each}
+use Rattle.recurrence.proofs.RowLaws.{Enough, state-held, row-left, take-filled, listed-same}
 use Rattle.surge.specs.declared.answer.Answer.{Answer}
 use Rattle.surge.specs.declared.answer.Answer.the-variants.{Refused, Done}
 use Rattle.steps.specs.declared.Ended.{Ended}
 use Rattle.surge.specs.Answers.{paperAnswer, left}
 use Rattle.steps.specs.Steps.{SameRest, resultOf}
+use Rattle.steps.proofs.Taken.{filled-rest}
 
 -- ---- the questions
+
+-- question 20, as the code asks it of the section count
+pub enough-is : (j : Job) (r : Rows) {n : ℕ} {b : Bool} → n ≡ sections j → b ≡ every (λ x. leb n (length (r x))) → b ≡ enoughLent j r
+unfolding enoughLent
+enough-is j r count e = e ∙ ap (λ (k : ℕ). every (λ x. leb k (length (r x)))) count
 
 module _ (job : List ℕ) (r : Rows) where
   abbrev j : Job
@@ -57,30 +65,30 @@ module _ (job : List ℕ) (r : Rows) where
 
   module _ (ok : Accepted job) where
     -- question 20 of the start
-    pub start-short : enoughLent (sections j) r ≡ false → left r (Refused 20) ≡ startCall job r
+    pub start-short : enoughLent j r ≡ false → left r (Refused 20) ≡ startCall job r
     unfolding startCall startResult start ask
     start-short e = refused-left 20 ∙ ap (called job r) (sym (is-read ok _ ∙ rw e))
 
-    pub start-ran : enoughLent (sections j) r ≡ true → startCall job r ≡ called job r (ran (started j) completed)
+    pub start-ran : enoughLent j r ≡ true → startCall job r ≡ called job r (ran (started j) completed)
     unfolding startCall startResult start ask
     start-ran e = ap (called job r) (is-read ok _ ∙ rw e)
 
     module _ (m N : ℕ) where
       -- questions 20, 21 and 22 of the run-on
-      pub run-short : enoughLent (sections j) r ≡ false → left r (Refused 20) ≡ runOnCall job m N r
+      pub run-short : enoughLent j r ≡ false → left r (Refused 20) ≡ runOnCall job m N r
       unfolding runOnCall runOnResult runOn ask
       run-short e = refused-left 20 ∙ ap (called job r) (sym (is-read ok _ ∙ rw e))
 
-      pub run-beyond : enoughLent (sections j) r ≡ true → withinLimit m N ≡ false → left r (Refused 21) ≡ runOnCall job m N r
+      pub run-beyond : enoughLent j r ≡ true → withinLimit m N ≡ false → left r (Refused 21) ≡ runOnCall job m N r
       unfolding runOnCall runOnResult runOn ask
       run-beyond e l = refused-left 21 ∙ ap (called job r) (sym (is-read ok _ ∙ rw (e, l)))
 
-      pub run-unacceptable : enoughLent (sections j) r ≡ true → withinLimit m N ≡ true → acceptable j (stateIn (sections j) r) ≡ false → left r (Refused 22) ≡ runOnCall job m N r
+      pub run-unacceptable : enoughLent j r ≡ true → withinLimit m N ≡ true → acceptable j (stateIn j r) ≡ false → left r (Refused 22) ≡ runOnCall job m N r
       unfolding runOnCall runOnResult runOn ask
       run-unacceptable e l a = refused-left 22 ∙ ap (called job r) (sym (is-read ok _ ∙ rw (e, l, a)))
 
-      pub run-ran : enoughLent (sections j) r ≡ true → withinLimit m N ≡ true → acceptable j (stateIn (sections j) r) ≡ true
-          → runOnCall job m N r ≡ called job r (steps j N m (stateIn (sections j) r))
+      pub run-ran : enoughLent j r ≡ true → withinLimit m N ≡ true → acceptable j (stateIn j r) ≡ true
+          → runOnCall job m N r ≡ called job r (steps j N m (stateIn j r))
       unfolding runOnCall runOnResult runOn ask
       run-ran e l a = ap (called job r) (is-read ok _ ∙ rw (e, l, a))
 
@@ -91,65 +99,50 @@ limit-kept m N h = let t = both (leb m 1000000) (leb N (1000000 - m)) h in omega
 
 -- ---- the rows of an unrefused call
 
--- a row that holds a field of the points, and past the count is as lent
-held-row : (n : ℕ) (a : Rows) (field : Point → Float) (row lent : List Float) → ((s : ℕ) → field (pointIn a s) ≡ getD row s zero64) → n ≤ length row
-    → drop n row ≡ drop n lent → row ≡ rowOf n (stateIn n a) field lent
-unfolding rowOf
-held-row n a field row lent at long rest =
-    sym (row-same n (stateIn n a) field row (state-long n a) long (λ s h. ap field (state-at n a s h) ∙ at s))
-    ∙ ap (λ (l : List Float). map field (stateIn n a .points) ++ l) rest
-
-start-long : (j : Job) → length (startState j .points) ≡ sections j
-unfolding startState
-start-long j = length-listed (sections j) (λ s. startPoint (initialAt j s))
-
-start-at : (j : Job) (s : ℕ) → s < sections j → pointAt (startState j) s ≡ startPoint (initialAt j s)
-unfolding startState pointAt
-start-at j s h = getD-listed (sections j) (λ s. startPoint (initialAt j s)) s noPoint h
-
 module _ (job : List ℕ) (n : ℕ) (r : Rows) (count : n ≡ sections (jobOf job)) where
-  begun-row : (field : Point → Float) (g : ℕ → Float) (lent : List Float) {row : List Float} → n ≤ length lent → ((s : ℕ) → g s ≡ field (startPoint (initialAt (jobOf job) s)))
-      → row ≡ fill g lent 0 n → row ≡ rowOf (sections (jobOf job)) (startState (jobOf job)) field lent
-  begun-row field g lent long e is =
-      is
-      ∙ rw count
-      (filled-row (sections (jobOf job)) (startState (jobOf job)) field lent lent (start-long (jobOf job)) (omega arith) refl g
-      (λ s h. e s ∙ sym (ap field (start-at (jobOf job) s h))))
+  abbrev accepted : Job
+  accepted = jobOf job
+
+  -- a row filled over one that past the entries in use is as lent
+  filled-left : (st : State) (x : Row) (g : ℕ → Float) (base : List Float) {l : List Float} {m : ℕ} → m ≡ inUse accepted x → inUse accepted x ≤ length base
+      → drop (inUse accepted x) base ≡ drop (inUse accepted x) (r x) → l ≡ fill g base 0 m → listed (inUse accepted x) g ≡ holds accepted st x → l ≡ rowsOf accepted st r x
+  filled-left st x g base {l} e long rest filled h =
+      row-left accepted st r x l
+      (ap (take (inUse accepted x)) filled ∙ ap (λ (k : ℕ). take (inUse accepted x) (fill g base 0 k)) e ∙ take-filled (inUse accepted x) g base long ∙ h)
+      (filled-rest g base filled e ∙ rest)
 
   -- the start: the initial heads and flows, and the spare rows cleared
-  pub begun : (long : Lengths n r) {heads flows highest lowest a b : List Float}
-      → heads ≡ fill (λ s. initialAt (jobOf job) s .head) (r .heads) 0 n → flows ≡ fill (λ s. initialAt (jobOf job) s .flow) (r .flows) 0 n
-      → highest ≡ fill (λ s. initialAt (jobOf job) s .head) (r .highest) 0 n → lowest ≡ fill (λ s. initialAt (jobOf job) s .head) (r .lowest) 0 n
-      → a ≡ fill (λ s. zero64) (r .spareHeads) 0 n → b ≡ fill (λ s. zero64) (r .spareFlows) 0 n
-      → left (six heads flows highest lowest a b) (Done 0) ≡ called job r (ran (started (jobOf job)) completed)
-  unfolding called rowsAfter rowsOf answerOf paperAnswer started startPoint
-  begun long eh eq eu el ea eb =
-      let h = begun-row (λ p. p .head) _ (r .heads) (long .heads) (λ s. refl) eh in
-      let q = begun-row (λ p. p .flow) _ (r .flows) (long .flows) (λ s. refl) eq in
-      let u = begun-row (λ p. p .highest) _ (r .highest) (long .highest) (λ s. refl) eu in
-      let l = begun-row (λ p. p .lowest) _ (r .lowest) (long .lowest) (λ s. refl) el in
-      let c = begun-row (λ p. zero64) _ (r .spareHeads) (long .spare-heads) (λ s. refl) ea in
-      let d = begun-row (λ p. zero64) _ (r .spareFlows) (long .spare-flows) (λ s. refl) eb in
-      λ i. record {
-        rows = record { heads = h i; flows = q i; highest = u i; lowest = l i; spareHeads = c i; spareFlows = d i };
-        answer = record { number = 0; steps = 0; section = 0 };
-      }
+  pub begun : (long : Enough accepted r) {heads flows highest lowest a b : List Float}
+      → heads ≡ fill (λ s. initialAt accepted s .head) (r row.heads) 0 n → flows ≡ fill (λ s. initialAt accepted s .flow) (r row.flows) 0 n
+      → highest ≡ fill (λ s. initialAt accepted s .head) (r row.highest) 0 n → lowest ≡ fill (λ s. initialAt accepted s .head) (r row.lowest) 0 n
+      → a ≡ fill (λ s. zero64) (r row.spareHeads) 0 n → b ≡ fill (λ s. zero64) (r row.spareFlows) 0 n
+      → left (gathered heads flows highest lowest a b) (Done 0) ≡ called job r (ran (started accepted) completed)
+  unfolding called rowsAfter holds answerOf paperAnswer started startState startPoint
+  begun long {heads} {flows} {highest} {lowest} {a} {b} eh eq eu el ea eb =
+      let st = startState accepted in
+      let initial : (f : Point → Float) → listed (sections accepted) (λ s. f (startPoint (initialAt accepted s))) ≡ map f (st .points) = λ f. sym (map-listed f _ _) in
+      let e : (x : Row) → gathered heads flows highest lowest a b x ≡ rowsOf accepted st r x =
+      each _
+      (filled-left st row.heads _ _ count (long row.heads) refl eh (initial (λ p. p .head)))
+      (filled-left st row.flows _ _ count (long row.flows) refl eq (initial (λ p. p .flow)))
+      (filled-left st row.highest _ _ count (long row.highest) refl eu (initial (λ p. p .highest)))
+      (filled-left st row.lowest _ _ count (long row.lowest) refl el (initial (λ p. p .lowest)))
+      (filled-left st row.spareHeads _ _ count (long row.spareHeads) refl ea (listed-same _ _))
+      (filled-left st row.spareFlows _ _ count (long row.spareFlows) refl eb (listed-same _ _)) in
+      λ i. record { rows = λ x. e x i; answer = record { number = 0; steps = 0; section = 0 } }
 
   -- the run-on: the rows as the run left them, and the spare rows cleared
-  module _ (a : Rows) (rest : SameRest n r a) (long : Lengths n a) (x : Result) (ended : Ended) (is : resultOf ended (stateIn n a) ≡ x) where
-    cleared : (row lent : List Float) {clear : List Float} → n ≤ length row → drop n row ≡ drop n lent → clear ≡ fill (λ s. zero64) row 0 n → clear ≡ rowOf n (stateIn n a) (λ p. zero64) lent
-    cleared row lent h e c = c ∙ filled-row n (stateIn n a) (λ p. zero64) row lent (state-long n a) h e (λ s. zero64) (λ s _. refl)
-
-    pub run-left : (answer : Answer) {c d : List Float} → paperAnswer answer ≡ answerOf (resultOf ended (stateIn n a))
-        → c ≡ fill (λ s. zero64) (a .spareHeads) 0 n → d ≡ fill (λ s. zero64) (a .spareFlows) 0 n
-        → left (six (a .heads) (a .flows) (a .highest) (a .lowest) c d) answer ≡ called job r x
-    unfolding called rowsAfter rowsOf resultOf pointIn
-    run-left answer e ec ed =
-        let h = held-row n a (λ p. p .head) (a .heads) (r .heads) (λ s. refl) (long .heads) (rest .heads) in
-        let q = held-row n a (λ p. p .flow) (a .flows) (r .flows) (λ s. refl) (long .flows) (rest .flows) in
-        let u = held-row n a (λ p. p .highest) (a .highest) (r .highest) (λ s. refl) (long .highest) (rest .highest) in
-        let l = held-row n a (λ p. p .lowest) (a .lowest) (r .lowest) (λ s. refl) (long .lowest) (rest .lowest) in
-        let c = cleared (a .spareHeads) (r .spareHeads) (long .spare-heads) (rest .spare-heads) ec in
-        let d = cleared (a .spareFlows) (r .spareFlows) (long .spare-flows) (rest .spare-flows) ed in
-        rw (← is, ← count)
-        (λ i. record { rows = record { heads = h i; flows = q i; highest = u i; lowest = l i; spareHeads = c i; spareFlows = d i }; answer = e i })
+  module _ (a : Rows) (rest : SameRest accepted r a) (long : Enough accepted a) (x : Result) (ended : Ended) (is : resultOf ended (stateIn accepted a) ≡ x) where
+    pub run-left : (answer : Answer) {c d : List Float} → paperAnswer answer ≡ answerOf (resultOf ended (stateIn accepted a))
+        → c ≡ fill (λ s. zero64) (a row.spareHeads) 0 n → d ≡ fill (λ s. zero64) (a row.spareFlows) 0 n
+        → left (gathered (a row.heads) (a row.flows) (a row.highest) (a row.lowest) c d) answer ≡ called job r x
+    unfolding called rowsAfter resultOf holds
+    run-left answer {c} {d} e ec ed =
+        let st = stateIn accepted a in
+        let kept : (y : Row) → carried y ≡ true → a y ≡ rowsOf accepted st r y =
+        λ y k. row-left accepted st r y (a y) (state-held accepted a long y k) (rest y) in
+        let rows : (y : Row) → gathered (a row.heads) (a row.flows) (a row.highest) (a row.lowest) c d y ≡ rowsOf accepted st r y =
+        each _ (kept row.heads refl) (kept row.flows refl) (kept row.highest refl) (kept row.lowest refl)
+        (filled-left st row.spareHeads _ _ count (long row.spareHeads) (rest row.spareHeads) ec (listed-same _ _))
+        (filled-left st row.spareFlows _ _ count (long row.spareFlows) (rest row.spareFlows) ed (listed-same _ _)) in
+        rw (← is) (λ i. record { rows = λ y. rows y i; answer = e i })

@@ -1,12 +1,12 @@
-// The start and the run-on, over six lent rows.
+// The start and the run-on, over lent rows.
 ghost use mathlib.Core.Path.{_≡_};
-ghost use mathlib.Core.Bool.{_&&_};
 ghost use Prim.Native.Nat.{_+_, _≤_};
 ghost use lib.Dec.{leb};
 ghost use Rattle.job.specs.Format.{jobOf};
 ghost use Rattle.recurrence.specs.State.{State};
 ghost use Rattle.recurrence.specs.Run.{answerOf, started, ran, completed, steps, withinLimit};
-ghost use Rattle.recurrence.specs.Calls.{stateIn, called, startCall, runOnCall, six};
+ghost use Rattle.recurrence.specs.Calls.{gathered, every, stateIn, called, startCall, runOnCall};
+ghost use Rattle.recurrence.specs.Slices.{lent, before, after};
 ghost use Rattle.surge.specs.Answers.{paperAnswer, left};
 ghost use Rattle.steps.specs.Steps.{Ready, resultOf};
 
@@ -21,9 +21,9 @@ use steps::Ended;
 // The most steps that a run may come to.
 const LIMIT: u64 = 1000000;
 
-// Question 20, of the section count and the lengths of the six rows.
+// Question 20, of the section count and the lengths of the rows.
 fn enough(n: usize, a: usize, b: usize, c: usize, d: usize, e: usize, f: usize) -> bool
-    ensures { λ r. ⌜ r ≡ leb n a && leb n b && leb n c && leb n d && leb n e && leb n f ⌝ }
+    ensures { λ r. ⌜ r ≡ every (λ x. leb n (gathered a b c d e f x)) ⌝ }
 {
     (n <= a) & (n <= b) & (n <= c) & (n <= d) & (n <= e) & (n <= f)
 }
@@ -62,8 +62,10 @@ fn begin(
     spare_heads: &mut [f64],
     spare_flows: &mut [f64],
 ) -> Answer
-    requires { ⌜ Ready (now job) n (six (now heads) (now flows) (now highest) (now lowest) (now «spare_heads») (now «spare_flows»)) ⌝ }
-    ensures { λ r. ⌜ left (six (now (heads .exit)) (now (flows .exit)) (now (highest .exit)) (now (lowest .exit)) (now («spare_heads» .exit)) (now («spare_flows» .exit))) r ≡ called (now (job .entry)) (six (now (heads .entry)) (now (flows .entry)) (now (highest .entry)) (now (lowest .entry)) (now («spare_heads» .entry)) (now («spare_flows» .entry))) (ran (started (jobOf (now (job .entry)))) completed) ⌝ }
+    requires { ⌜ Ready (now job) n (lent heads flows highest lowest «spare_heads» «spare_flows») ⌝ }
+    ensures { λ r. ⌜ left (after heads flows highest lowest «spare_heads» «spare_flows») r
+        ≡ called (now (job .entry)) (before heads flows highest lowest «spare_heads» «spare_flows»)
+        (ran (started (jobOf (now (job .entry)))) completed) ⌝ }
 {
     state::write_start(job, n, heads, flows, highest, lowest);
     state::clear_spare(n, spare_heads, spare_flows);
@@ -80,7 +82,8 @@ pub fn start(
     spare_heads: &mut [f64],
     spare_flows: &mut [f64],
 ) -> Answer
-    ensures { λ r. ⌜ left (six (now (heads .exit)) (now (flows .exit)) (now (highest .exit)) (now (lowest .exit)) (now («spare_heads» .exit)) (now («spare_flows» .exit))) r ≡ startCall (now (job .entry)) (six (now (heads .entry)) (now (flows .entry)) (now (highest .entry)) (now (lowest .entry)) (now («spare_heads» .entry)) (now («spare_flows» .entry))) ⌝ }
+    ensures { λ r. ⌜ left (after heads flows highest lowest «spare_heads» «spare_flows») r
+        ≡ startCall (now (job .entry)) (before heads flows highest lowest «spare_heads» «spare_flows») ⌝ }
 {
     let read = job::read(job);
     match read {
@@ -124,8 +127,12 @@ fn carry_on(
     spare_heads: &mut [f64],
     spare_flows: &mut [f64],
 ) -> Answer
-    requires { ⌜ (Ready (now job) n (six (now heads) (now flows) (now highest) (now lowest) (now «spare_heads») (now «spare_flows»))) × (done + count ≤ 1000000) ⌝ }
-    ensures { λ r. ⌜ left (six (now (heads .exit)) (now (flows .exit)) (now (highest .exit)) (now (lowest .exit)) (now («spare_heads» .exit)) (now («spare_flows» .exit))) r ≡ called (now (job .entry)) (six (now (heads .entry)) (now (flows .entry)) (now (highest .entry)) (now (lowest .entry)) (now («spare_heads» .entry)) (now («spare_flows» .entry))) (steps (jobOf (now (job .entry))) count done (stateIn n (six (now (heads .entry)) (now (flows .entry)) (now (highest .entry)) (now (lowest .entry)) (now («spare_heads» .entry)) (now («spare_flows» .entry))))) ⌝ }
+    requires { ⌜ (Ready (now job) n (lent heads flows highest lowest «spare_heads» «spare_flows»))
+        × (done + count ≤ 1000000) ⌝ }
+    ensures { λ r. ⌜ (let j = jobOf (now (job .entry)) in
+        let old = before heads flows highest lowest «spare_heads» «spare_flows» in
+        left (after heads flows highest lowest «spare_heads» «spare_flows») r
+        ≡ called (now (job .entry)) old (steps j count done (stateIn j old))) ⌝ }
 {
     let t = march::ends::constant_sums(job);
     let ended = steps::run(
@@ -157,7 +164,8 @@ pub fn run_on(
     spare_heads: &mut [f64],
     spare_flows: &mut [f64],
 ) -> Answer
-    ensures { λ r. ⌜ left (six (now (heads .exit)) (now (flows .exit)) (now (highest .exit)) (now (lowest .exit)) (now («spare_heads» .exit)) (now («spare_flows» .exit))) r ≡ runOnCall (now (job .entry)) done count (six (now (heads .entry)) (now (flows .entry)) (now (highest .entry)) (now (lowest .entry)) (now («spare_heads» .entry)) (now («spare_flows» .entry))) ⌝ }
+    ensures { λ r. ⌜ left (after heads flows highest lowest «spare_heads» «spare_flows») r
+        ≡ runOnCall (now (job .entry)) done count (before heads flows highest lowest «spare_heads» «spare_flows») ⌝ }
 {
     let read = job::read(job);
     match read {

@@ -1,16 +1,17 @@
 // The rows before and after a run.
 ghost use mathlib.Core.Path.{_≡_};
 ghost use mathlib.Core.Bool.{true};
-ghost use mathlib.Core.List.{[]};
+ghost use mathlib.Core.List.{List};
 ghost use Prim.Native.Nat.{ℕ, _*_, _≤_};
 ghost use lib.ListN.{length};
+ghost use lib.Ieee.{Float};
 ghost use Rattle.fields.specs.Real.{zero64};
 ghost use Rattle.loops.specs.Loops.{fill};
 ghost use Rattle.job.specs.Job.{sections, initialAt};
 ghost use Rattle.job.specs.Format.{jobOf, initialOf};
 ghost use Rattle.job.specs.Questions.{Accepted, initialFits};
 ghost use Rattle.recurrence.specs.Scan.{acceptable};
-ghost use Rattle.recurrence.specs.Calls.{stateIn, six};
+ghost use Rattle.recurrence.specs.Calls.{stateIn, gathered};
 
 // The initial heads and flows of table 4 into the rows of heads and flows, and the heads into both envelopes.
 fn write_initial(
@@ -22,11 +23,14 @@ fn write_initial(
     lowest: &mut [f64],
 )
     requires { ⌜ (initialFits (now initial) ≡ true) × (n * 24 ≤ length (now initial)) ⌝ }
-    requires { ⌜ (n ≤ length (now heads)) × (n ≤ length (now flows)) × (n ≤ length (now highest)) × (n ≤ length (now lowest)) ⌝ }
-    ensures { λ _. ⌜ (now (heads .exit) ≡ fill (λ (s : ℕ). initialOf (now (initial .entry)) s .head) (now (heads .entry)) 0 n)
-        × (now (flows .exit) ≡ fill (λ (s : ℕ). initialOf (now (initial .entry)) s .flow) (now (flows .entry)) 0 n)
-        × (now (highest .exit) ≡ fill (λ (s : ℕ). initialOf (now (initial .entry)) s .head) (now (highest .entry)) 0 n)
-        × (now (lowest .exit) ≡ fill (λ (s : ℕ). initialOf (now (initial .entry)) s .head) (now (lowest .entry)) 0 n) ⌝ }
+    requires { ⌜ (n ≤ length (now heads)) × (n ≤ length (now flows))
+        × (n ≤ length (now highest)) × (n ≤ length (now lowest)) ⌝ }
+    ensures { λ _. ⌜ (let head : ℕ → Float = λ s. initialOf (now (initial .entry)) s .head in
+        let flow : ℕ → Float = λ s. initialOf (now (initial .entry)) s .flow in
+        (now (heads .exit) ≡ fill head (now (heads .entry)) 0 n)
+        × (now (flows .exit) ≡ fill flow (now (flows .entry)) 0 n)
+        × (now (highest .exit) ≡ fill head (now (highest .entry)) 0 n)
+        × (now (lowest .exit) ≡ fill head (now (lowest .entry)) 0 n)) ⌝ }
 {
     let mut s = 0;
     while s < n {
@@ -50,11 +54,14 @@ pub fn write_start(
     lowest: &mut [f64],
 )
     requires { ⌜ (Accepted (now job)) × (n ≡ sections (jobOf (now job))) ⌝ }
-    requires { ⌜ (n ≤ length (now heads)) × (n ≤ length (now flows)) × (n ≤ length (now highest)) × (n ≤ length (now lowest)) ⌝ }
-    ensures { λ _. ⌜ (now (heads .exit) ≡ fill (λ (s : ℕ). initialAt (jobOf (now (job .entry))) s .head) (now (heads .entry)) 0 n)
-        × (now (flows .exit) ≡ fill (λ (s : ℕ). initialAt (jobOf (now (job .entry))) s .flow) (now (flows .entry)) 0 n)
-        × (now (highest .exit) ≡ fill (λ (s : ℕ). initialAt (jobOf (now (job .entry))) s .head) (now (highest .entry)) 0 n)
-        × (now (lowest .exit) ≡ fill (λ (s : ℕ). initialAt (jobOf (now (job .entry))) s .head) (now (lowest .entry)) 0 n) ⌝ }
+    requires { ⌜ (n ≤ length (now heads)) × (n ≤ length (now flows))
+        × (n ≤ length (now highest)) × (n ≤ length (now lowest)) ⌝ }
+    ensures { λ _. ⌜ (let head : ℕ → Float = λ s. initialAt (jobOf (now (job .entry))) s .head in
+        let flow : ℕ → Float = λ s. initialAt (jobOf (now (job .entry))) s .flow in
+        (now (heads .exit) ≡ fill head (now (heads .entry)) 0 n)
+        × (now (flows .exit) ≡ fill flow (now (flows .entry)) 0 n)
+        × (now (highest .exit) ≡ fill head (now (highest .entry)) 0 n)
+        × (now (lowest .exit) ≡ fill head (now (lowest .entry)) 0 n)) ⌝ }
 {
     let initial = job::pairs::table(job, 3);
     write_initial(initial, n, heads, flows, highest, lowest);
@@ -66,11 +73,11 @@ pub fn clear_spare(n: usize, spare_heads: &mut [f64], spare_flows: &mut [f64])
     ensures { λ _. ⌜ (now («spare_heads» .exit) ≡ fill (λ (s : ℕ). zero64) (now («spare_heads» .entry)) 0 n)
         × (now («spare_flows» .exit) ≡ fill (λ (s : ℕ). zero64) (now («spare_flows» .entry)) 0 n) ⌝ }
 {
-    rows::clear_row(spare_heads, n);
-    rows::clear_row(spare_flows, n);
+    rows::clear_row(n, spare_heads);
+    rows::clear_row(n, spare_flows);
 }
 
-// Question 22.
+// Question 22; a and b stand for the spare rows, which it does not ask about.
 pub fn acceptable(
     job: &[u8],
     n: usize,
@@ -80,9 +87,12 @@ pub fn acceptable(
     lowest: &[f64],
 ) -> bool
     requires { ⌜ (Accepted (now job)) × (n ≡ sections (jobOf (now job))) ⌝ }
-    requires { ⌜ (n ≤ length (now heads)) × (n ≤ length (now flows)) × (n ≤ length (now highest)) × (n ≤ length (now lowest)) ⌝ }
-    ensures { λ r. ⌜ r ≡ acceptable (jobOf (now (job .entry))) (stateIn n (six (now (heads .entry)) (now (flows .entry)) (now (highest .entry)) (now (lowest .entry)) [] [])) ⌝ }
+    requires { ⌜ (n ≤ length (now heads)) × (n ≤ length (now flows))
+        × (n ≤ length (now highest)) × (n ≤ length (now lowest)) ⌝ }
+    ensures { λ r. ⌜ ((a b : List Float) → let j = jobOf (now (job .entry)) in
+        r ≡ acceptable j (stateIn j (gathered (now (heads .entry)) (now (flows .entry))
+        (now (highest .entry)) (now (lowest .entry)) a b))) ⌝ }
 {
     let initial = job::pairs::table(job, 3);
-    rows::acceptable(heads, flows, highest, lowest, initial, n)
+    rows::acceptable(initial, n, heads, flows, highest, lowest)
 }

@@ -15,26 +15,27 @@ fn print_closing(number: usize, steps: usize, section: usize) {
 // Prints a line per section and the closing line, in one piece: 512 lines and one more fit.
 fn print_listing(
     count: usize,
+    number: usize,
+    steps: usize,
+    section: usize,
     heads: &[f64],
     flows: &[f64],
     highest: &[f64],
     lowest: &[f64],
-    number: usize,
-    steps: usize,
-    section: usize,
 )
-    requires { ⌜ (count ≤ 512) × (count ≤ length (now heads)) × (count ≤ length (now flows)) × (count ≤ length (now highest)) × (count ≤ length (now lowest)) ⌝ }
+    requires { ⌜ (count ≤ 512) × (count ≤ length (now heads)) × (count ≤ length (now flows))
+        × (count ≤ length (now highest)) × (count ≤ length (now lowest)) ⌝ }
 {
     let mut text = [0u8; 36936];
     let n = listing::write_listing(
         count,
+        number,
+        steps,
+        section,
         heads,
         flows,
         highest,
         lowest,
-        number,
-        steps,
-        section,
         &mut text,
     );
     io::write_all(STDOUT_FILENO, &text[0..n]);
@@ -113,13 +114,13 @@ fn list(job: &[u8], count: usize, steps: usize)
     let end = end_of(answer, count);
     print_listing(
         end.lines,
+        end.number,
+        end.steps,
+        end.section,
         &heads,
         &flows,
         &highest,
         &lowest,
-        end.number,
-        end.steps,
-        end.section,
     );
 }
 

@@ -8,10 +8,11 @@ use lib.ListN.{length, getD}
 use lib.Ieee.{Float}
 use lib.Ieee.Scale.{finite}
 use Rattle.fields.specs.Real.{zero64}
-use Rattle.loops.specs.Loops.{allBelow}
+use Rattle.loops.specs.Loops.{fill, allBelow}
 use Rattle.wave.specs.declared.HeadFlow.{HeadFlow}
 use Rattle.wave.specs.Wave.{fromAbove, fromBelow, inner}
 use Rattle.job.specs.Format.{rIn}
+use Rattle.recurrence.specs.Slices.{LentSlice}
 use Rattle.sweep.specs.declared.TwoCp.{TwoCp}
 
 -- CP of section i + 1: along reach i from the section above.
@@ -30,12 +31,6 @@ innerAt friction S heads flows i =
     (cpAt friction S heads flows i)
     (fromBelow S (rIn friction (suc i)) (getD heads (suc (suc i)) zero64) (getD flows (suc (suc i)) zero64))
 
-unfoldable pub innerHead : List ℕ → Float → List Float → List Float → ℕ → Float
-innerHead friction S heads flows i = innerAt friction S heads flows i .head
-
-unfoldable pub innerFlow : List ℕ → Float → List Float → List Float → ℕ → Float
-innerFlow friction S heads flows i = innerAt friction S heads flows i .flow
-
 -- Rows cut to one pipe: as many sections as `heads` has, a reach fewer, and each R finite.
 pub record CutToPipe (friction : List ℕ) (heads flows newHeads newFlows : List Float) : Type 0 where
   pub flows-long : length heads ≤ length flows
@@ -43,3 +38,9 @@ pub record CutToPipe (friction : List ℕ) (heads flows newHeads newFlows : List
   pub new-flows-long : length heads ≤ length newFlows
   pub friction-long : length heads * 8 ≤ length friction + 8
   pub friction-finite : allBelow (λ i. finite (rIn friction i)) (length heads - 1) ≡ true
+
+-- Two lent rows after a call: from entry `at` on the heads and the flows that f has of n sections, and every other entry as it was.
+abbrev pub WrittenRows : (ℕ → HeadFlow) → ℕ → ℕ → LentSlice → LentSlice → Type 0
+WrittenRows f at n heads flows =
+    (heads .exit .now ≡ fill (λ i. f i .head) (heads .entry .now) at n)
+    × (flows .exit .now ≡ fill (λ i. f i .flow) (flows .entry .now) at n)

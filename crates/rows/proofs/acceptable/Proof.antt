@@ -12,13 +12,10 @@ use Rattle.rows.proofs.acceptable.Statement.{statement}
 use Rattle.rows.proofs.acceptable.Tie as tie
 
 abbrev Inv-loop : tie.InvT-loop
-Inv-loop heads flows highest lowest initial n s₀ s = Passing (acceptableIn initial heads flows highest lowest) n s
+Inv-loop initial n heads flows highest lowest s₀ s = Passing (acceptableIn initial heads flows highest lowest) n s
 
 abbrev μ-loop : tie.MeasureT-loop
-μ-loop heads flows highest lowest initial n s₀ s = n - s
-
-loop-holds : tie.Need-loop-holds Inv-loop μ-loop
-loop-holds c = passing-none _
+μ-loop initial n heads flows highest lowest s₀ s = n - s
 
 -- what is asked at this section
 asked :
@@ -39,16 +36,13 @@ loop-again : tie.Need-loop-again Inv-loop μ-loop
 loop-again c =
     passing-step _ (c .before .before .before .before .before .before .before .before .loop .inv) (omega arith) (asked (c .before)) (not-false _ (c .if1 .left))
 
-returns-2 : tie.Need-returns-2 Inv-loop μ-loop
-returns-2 c = passing-done _ (c .before .loop .inv) (c .loop-test .left)
-
 pub acceptable-spec : {M : Type 1} → statement M
 acceptable-spec =
     tie.close
     (tie.spec
     Inv-loop
     μ-loop
-    loop-holds
+    (λ c. passing-none _)
     (λ c. search needs)
     (λ c. search needs)
     (λ c. search needs)
@@ -63,4 +57,4 @@ acceptable-spec =
     (λ c. search needs)
     (λ c. search needs)
     loop-again
-    returns-2)
+    (λ c. passing-done _ (c .before .loop .inv) (c .loop-test .left)))

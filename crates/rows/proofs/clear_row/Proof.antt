@@ -9,10 +9,10 @@ use Rattle.rows.proofs.clear_row.Statement.{statement}
 use Rattle.rows.proofs.clear_row.Tie as tie
 
 abbrev Inv-loop : tie.InvT-loop
-Inv-loop dst₀ n at₀ dst at = Upto (λ (s : ℕ). zero64) dst₀ 0 n at dst
+Inv-loop n dst₀ at₀ dst at = Upto (λ (s : ℕ). zero64) dst₀ 0 n at dst
 
 abbrev μ-loop : tie.MeasureT-loop
-μ-loop dst₀ n at₀ dst at = n - at
+μ-loop n dst₀ at₀ dst at = n - at
 
 loop-again : tie.Need-loop-again Inv-loop μ-loop
 loop-again c = upto-step (c .before .loop .inv) (omega arith) (omega arith) refl

@@ -10,10 +10,10 @@ use Rattle.rows.proofs.copy_row.Statement.{statement}
 use Rattle.rows.proofs.copy_row.Tie as tie
 
 abbrev Inv-loop : tie.InvT-loop
-Inv-loop src dst₀ n i₀ dst i = Upto (entry src) dst₀ 0 n i dst
+Inv-loop n src dst₀ i₀ dst i = Upto (entry src) dst₀ 0 n i dst
 
 abbrev μ-loop : tie.MeasureT-loop
-μ-loop src dst₀ n i₀ dst i = n - i
+μ-loop n src dst₀ i₀ dst i = n - i
 
 loop-again : tie.Need-loop-again Inv-loop μ-loop
 loop-again c =

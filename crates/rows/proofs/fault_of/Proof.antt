@@ -9,15 +9,15 @@ use Rattle.rows.proofs.fault_of.Tie as tie
 
 returns : tie.Need-returns
 unfolding foundFault faultOf
-returns c = rw (sym (c .before .both-finite .ensures) ∙ not-true _ (c .if1 .taken))
+returns c = rw (sym (c .before .both-finite .ensures) ∙ not-true (c .before .both-finite .result) (c .if1 .taken))
 
 returns-2 : tie.Need-returns-2
 unfolding foundFault faultOf
-returns-2 c = rw (sym (c .before .before .both-finite .ensures) ∙ not-false _ (c .before .if1 .left), c .if2 .taken)
+returns-2 c = rw (sym (c .before .before .both-finite .ensures) ∙ not-false (c .before .before .both-finite .result) (c .before .if1 .left), c .if2 .taken)
 
 returns-3 : tie.Need-returns-3
 unfolding foundFault faultOf
-returns-3 c = rw (sym (c .before .before .both-finite .ensures) ∙ not-false _ (c .before .if1 .left), c .if2 .left)
+returns-3 c = rw (sym (c .before .before .both-finite .ensures) ∙ not-false (c .before .before .both-finite .result) (c .before .if1 .left), c .if2 .left)
 
 pub fault-of-spec : {M : Type 1} → statement M
 fault-of-spec = tie.close (tie.spec (λ c κs. search needs) returns returns-2 returns-3)

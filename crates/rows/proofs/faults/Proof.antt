@@ -11,13 +11,10 @@ use Rattle.rows.proofs.faults.Statement.{statement}
 use Rattle.rows.proofs.faults.Tie as tie
 
 abbrev Inv-loop : tie.InvT-loop
-Inv-loop heads flows initial n bad₀ i₀ bad i = Counting (soundAt initial heads flows) n i bad
+Inv-loop initial n heads flows bad₀ i₀ bad i = Counting (soundAt initial heads flows) n i bad
 
 abbrev μ-loop : tie.MeasureT-loop
-μ-loop heads flows initial n bad₀ i₀ bad i = n - i
-
-loop-holds : tie.Need-loop-holds Inv-loop μ-loop
-loop-holds c = counting-none _
+μ-loop initial n heads flows bad₀ i₀ bad i = n - i
 
 -- what a turn adds is told by the section's fault
 adds :
@@ -34,16 +31,13 @@ loop-again : tie.Need-loop-again Inv-loop μ-loop
 unfolding soundAt
 loop-again c = counting-more _ (c .before .before .before .before .before .loop .inv) (omega arith) (adds c)
 
-returns : tie.Need-returns Inv-loop μ-loop
-returns c = counting-done _ (c .before .loop .inv) (c .loop-test .left)
-
 pub faults-spec : {M : Type 1} → statement M
 faults-spec =
     tie.close
     (tie.spec
     Inv-loop
     μ-loop
-    loop-holds
+    (λ c. counting-none _)
     (λ c. search needs)
     (λ c. search needs)
     (λ c. search needs)
@@ -54,4 +48,4 @@ faults-spec =
     (λ c. search needs)
     (λ c. search needs)
     loop-again
-    returns)
+    (λ c. counting-done _ (c .before .loop .inv) (c .loop-test .left)))

@@ -11,13 +11,10 @@ use Rattle.rows.proofs.first_fault.Statement.{statement}
 use Rattle.rows.proofs.first_fault.Tie as tie
 
 abbrev Inv-loop : tie.InvT-loop
-Inv-loop heads flows initial n s₀ s = NoneYet (faultAt initial heads flows) n s
+Inv-loop initial n heads flows s₀ s = NoneYet (faultAt initial heads flows) n s
 
 abbrev μ-loop : tie.MeasureT-loop
-μ-loop heads flows initial n s₀ s = n - s
-
-loop-holds : tie.Need-loop-holds Inv-loop μ-loop
-loop-holds c = none-yet _
+μ-loop initial n heads flows s₀ s = n - s
 
 -- what is found at this section is its fault
 found :
@@ -55,7 +52,7 @@ first-fault-spec =
     (tie.spec
     Inv-loop
     μ-loop
-    loop-holds
+    (λ c. none-yet _)
     (λ c. search needs)
     (λ c. search needs)
     (λ c. search needs)

@@ -1,33 +1,35 @@
 -- `surge::begin` meets its contract: the initial state in four rows, +0 in two. Assumes nothing.
+use mathlib.Core.Path.{refl}
 use borrow.Author.Needs.{needs}
-use Rattle.recurrence.specs.Calls.{Rows, six}
-use Rattle.recurrence.proofs.RowLaws.{Lengths, enough-lengths}
+use Rattle.recurrence.specs.Calls.{heads, flows, highest, lowest, spareHeads, spareFlows}
+use Rattle.steps.proofs.Runs.{ready-enough, ready-long}
 use Rattle.surge.proofs.Left.{begun}
 use Rattle.surge.proofs.begin.Statement.{statement}
 use Rattle.surge.proofs.begin.Tie as tie
 
--- the rows as they are lent
-abbrev lent : tie.Start → Rows
-lent c = six (c .args .heads .now) (c .args .flows .now) (c .args .highest .now) (c .args .lowest .now) (c .args .spare-heads .now) (c .args .spare-flows .now)
+-- where the call starts, and where the initial state has been written
+abbrev begin : tie.After-write-start-arg4 → tie.Start
+begin c = c .before .before .before .before .before .before .before .before .before .before .before
 
-long : (c : tie.Start) → Lengths (c .args .n) (lent c)
-long c = enough-lengths (c .args .n) (lent c) (c .pre .enough)
+abbrev written : tie.After-clear-spare-arg2 → tie.After-write-start
+written c = c .before .before .before .before .before .before .before .before .before .before
 
 write-start-requires : tie.Need-write-start-requires
 write-start-requires c κs =
-    let s = c .before .before .before .before .before .before .before .before .before .before .before in
-    let l = long s in
-    ((s .pre .accepted, s .pre .count), (l .heads, l .flows, l .highest, l .lowest))
+    let s = begin c in
+    let l = ready-long (s .pre) in
+    ((s .pre .accepted, s .pre .count), (l heads refl, l flows refl, l highest refl, l lowest refl))
 
 clear-spare-requires : tie.Need-clear-spare-requires
-clear-spare-requires c κs = let l = long (c .before .before .before .before .before .before .before .before .before .before .before .before .before .before .before .before .before .before .before .before .before .before) in (l .spare-heads, l .spare-flows)
+clear-spare-requires c κs = let l = ready-long (begin (written c .before) .pre) in (l spareHeads refl, l spareFlows refl)
 
 returns : tie.Need-returns
 returns c =
-    let s = c .before .before .before .before .before .before .before .before .before .before .before .before .before .before .before .before .before .before .before .before .before .before .before .before .before .before .before in
-    let w = c .before .before .before .before .before .before .before .before .before .before .before .before .before .before .before .write-start .ensures in
-    let e = c .before .before .before .before .clear-spare .ensures in
-    begun _ _ (lent s) (s .pre .count) (long s) (w .0) (w .1) (w .2) (w .3) (e .0) (e .1)
+    let d = c .before .before .before .before in
+    let w = written (d .before) in
+    let s = begin (w .before) in
+    let e = w .write-start .ensures in
+    begun _ _ _ (s .pre .count) (ready-enough (s .pre)) (e .0) (e .1) (e .2) (e .3) (d .clear-spare .ensures .0) (d .clear-spare .ensures .1)
 
 pub begin-spec : {M : Type 1} → statement M
 begin-spec =

@@ -1,39 +1,38 @@
 -- `surge::carry_on` meets its contract: the rows as the run left them, and the spare rows cleared. Assumes nothing.
+use mathlib.Core.Path.{refl}
 use borrow.Author.Needs.{needs}
-use Rattle.recurrence.specs.Calls.{Rows, six}
-use Rattle.recurrence.proofs.RowLaws.{Lengths, enough-lengths}
-use Rattle.steps.proofs.Runs.{SameSizes, enough-kept}
+use Rattle.recurrence.specs.Calls.{spareHeads, spareFlows, Rows, gathered}
+use Rattle.steps.specs.Steps.{Ready}
+use Rattle.steps.proofs.Runs.{ready-enough, ready-long, ready-kept}
 use Rattle.surge.proofs.Left.{run-left}
 use Rattle.surge.proofs.carry_on.Statement.{statement}
 use Rattle.surge.proofs.carry_on.Tie as tie
-
--- the rows as they are lent
-abbrev lent : tie.Start → Rows
-lent c = six (c .args .heads .now) (c .args .flows .now) (c .args .highest .now) (c .args .lowest .now) (c .args .spare-heads .now) (c .args .spare-flows .now)
 
 -- the rows as the run leaves them
 abbrev ran : tie.After-run → Rows
 ran c =
     let l = c .run .last .1 .1 .1 .1 .1 in
-    six (l .0) (l .1 .0) (l .1 .1 .0) (l .1 .1 .1 .0) (l .1 .1 .1 .1 .0) (l .1 .1 .1 .1 .1 .0)
+    gathered (l .0) (l .1 .0) (l .1 .1 .0) (l .1 .1 .1 .0) (l .1 .1 .1 .1 .0) (l .1 .1 .1 .1 .1 .0)
 
-long : (c : tie.After-run) → Lengths (c .before .before .before .before .before .before .before .before .before .before .before .before .before .before .before .before .args .n) (ran c)
-long c =
-    let s = c .before .before .before .before .before .before .before .before .before .before .before .before .before .before .before .before in
-    let k = c .run .kept .1 .1 .1 .1 .1 in
-    let z : SameSizes (lent s) (ran c) =
-    record { heads-size = k .0; flows-size = k .1 .0; highest-size = k .1 .1 .0; lowest-size = k .1 .1 .1 .0; spare-heads-size = k .1 .1 .1 .1 .0; spare-flows-size = k .1 .1 .1 .1 .1 .0 } in
-    enough-lengths (s .args .n) (ran c) (enough-kept (s .args .n) (lent s) (ran c) z (s .pre .0 .enough))
+-- where the call starts, and where the run has ended
+abbrev begin : tie.After-run → tie.Start
+begin c = c .before .before .before .before .before .before .before .before .before .before .before .before .before .before .before .before
+
+abbrev ended : tie.After-clear-spare-arg2 → tie.After-run
+ended c = c .before .before .before .before .before .before .before .before .before .before .before .before .before .before
+
+ready : (c : tie.After-run) → Ready (begin c .args .job .now) (begin c .args .n) (ran c)
+ready c = ready-kept (ran c) (c .run .kept .1 .1 .1 .1 .1) (begin c .pre .0)
 
 clear-spare-requires : tie.Need-clear-spare-requires
-clear-spare-requires c κs = let l = long (c .before .before .before .before .before .before .before .before .before .before .before .before .before .before) in (l .spare-heads, l .spare-flows)
+clear-spare-requires c κs = let l = ready-long (ready (ended c)) in (l spareHeads refl, l spareFlows refl)
 
 returns : tie.Need-returns
 returns c =
-    let d = c .before .before .before .before .before .before .before .before .before .before .before .before .before .before .before .before .before .before .before .before in
-    let s = c .before .before .before .before .before .before .before .before .before .before .before .before .before .before .before .before .before .before .before .before .before .before .before .before .before .before .before .before .before .before .before .before .before .before .before .before in
-    let e = c .before .before .before .before .before .clear-spare .ensures in
-    run-left _ _ (lent s) (s .pre .0 .count) (ran d) (d .run .ensures .rest) (long d) _ (d .run .result) (d .run .ensures .result-is) _ (c .answer-of .ensures _) (e .0) (e .1)
+    let e = c .before .before .before .before .before in
+    let d = ended (e .before) in
+    run-left _ _ _ (begin d .pre .0 .count) (ran d) (d .run .ensures .rest) (ready-enough (ready d)) _ (d .run .result) (d .run .ensures .result-is) _ (c .answer-of .ensures _)
+    (e .clear-spare .ensures .0) (e .clear-spare .ensures .1)
 
 pub carry-on-spec : {M : Type 1} → statement M
 carry-on-spec =

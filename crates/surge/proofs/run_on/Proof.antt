@@ -2,77 +2,110 @@
 use mathlib.Core.Path.{_≡_, sym, ap, _∙_}
 use mathlib.Core.Bool.{true}
 use borrow.Author.Needs.{needs}
-use Rattle.job.specs.Job.{sections}
+use Rattle.job.specs.Job.{Job, sections}
 use Rattle.job.specs.Format.{jobOf}
 use Rattle.job.specs.Questions.{Accepted}
 use Rattle.job.specs.Answer.{paperAnswer}
 use Rattle.job.proofs.FirstNo.{is-yes, is-no}
 use Rattle.job.proofs.AnswerLaws.{refused-is, accepted-is}
 use Rattle.recurrence.specs.Scan.{acceptable}
-use Rattle.recurrence.specs.Calls.{Rows, enoughLent, pointIn, stateIn, six}
-use Rattle.recurrence.proofs.RowLaws.{enough-lengths}
-use Rattle.surge.proofs.Left.{run-not-read, run-short, run-beyond, run-unacceptable, run-ran, limit-kept}
+use Rattle.recurrence.specs.Run.{withinLimit}
+use Rattle.recurrence.specs.Calls.{heads, flows, highest, lowest, Rows, enoughLent, stateIn}
+use Rattle.recurrence.specs.Slices.{lent}
+use Rattle.recurrence.proofs.RowLaws.{enough-each}
+use Rattle.surge.proofs.Left.{enough-is, run-not-read, run-short, run-beyond, run-unacceptable, run-ran, limit-kept}
 use Rattle.surge.proofs.run_on.Statement.{statement}
 use Rattle.surge.proofs.run_on.Tie as tie
 
--- the rows as they are lent
-abbrev lent : tie.Start → Rows
-lent c = six (c .args .heads .now) (c .args .flows .now) (c .args .highest .now) (c .args .lowest .now) (c .args .spare-heads .now) (c .args .spare-flows .now)
+-- where the call starts, where the job has been read, and where questions 20 and 21 have been asked
+abbrev begin : tie.After-read3 → tie.Start
+begin c = c .before .before .before .before .before .before .before .before .before .before
 
--- what `read` tells of an accepted job, and question 20
-told : (c : tie.After-read3) → (Accepted (c .before .before .before .before .before .before .before .before .before .before .args .job .now)) × (c .read3 .given .0 .0 ≡ sections (jobOf (c .before .before .before .before .before .before .before .before .before .before .args .job .now)))
+abbrev read : tie.After-enough → tie.After-read3
+read c = c .before .before
+
+abbrev asked-20 : tie.After-within-limit → tie.Else1
+asked-20 c = c .before
+
+abbrev asked-21 : tie.After-acceptable → tie.After-within-limit
+asked-21 c = c .before .before .before .before .before
+
+-- the job, and the rows as they are lent
+abbrev job : tie.After-read3 → Job
+job c = jobOf (begin c .args .job .now)
+
+abbrev rows : tie.After-read3 → Rows
+rows c =
+    let a = begin c .args in
+    lent (a .heads) (a .flows) (a .highest) (a .lowest) (a .spare-heads) (a .spare-flows)
+
+-- what `read` tells of an accepted job
+told : (c : tie.After-read3) → (Accepted (begin c .args .job .now)) × (c .read3 .given .0 .0 ≡ sections (job c))
 told c =
-    let t = accepted-is (c .before .before .before .before .before .before .before .before .before .before .args .job .now) _ _ (ap paperAnswer (sym (c .read3 .given .1)) ∙ c .before .before .read .ensures) in
+    let t = accepted-is (begin c .args .job .now) _ _ (ap paperAnswer (sym (c .read3 .given .1)) ∙ c .before .before .read .ensures) in
     (t .0, t .1)
 
-lent-enough : (c : tie.After-enough) → c .enough .result ≡ enoughLent (sections (jobOf (c .before .before .before .before .before .before .before .before .before .before .before .before .args .job .now))) (lent (c .before .before .before .before .before .before .before .before .before .before .before .before))
-unfolding enoughLent
-lent-enough c = c .enough .ensures ∙ rw (told (c .before .before) .1)
+-- question 20, and its yes
+lent-enough : (c : tie.After-enough) → c .enough .result ≡ enoughLent (job (read c)) (rows (read c))
+lent-enough c = enough-is _ _ (told (read c) .1) (c .enough .ensures)
 
--- question 20 has a yes, and question 22 is asked of what the rows hold
-is-enough : (c : tie.After-acceptable) → enoughLent (sections (jobOf (c .before .before .before .before .before .before .before .before .before .before .before .before .before .before .before .before .before .before .before .args .job .now))) (lent (c .before .before .before .before .before .before .before .before .before .before .before .before .before .before .before .before .before .before .before)) ≡ true
-is-enough c = is-yes (lent-enough (c .before .before .before .before .before .before .before)) (c .before .before .before .before .before .before .if1 .left)
+enough : (c : tie.Else1) → enoughLent (job (read (c .before))) (rows (read (c .before))) ≡ true
+enough c = is-yes (lent-enough (c .before)) (c .if1 .left)
 
-acceptable-is : (c : tie.After-acceptable) → c .acceptable .result ≡ acceptable (jobOf (c .before .before .before .before .before .before .before .before .before .before .before .before .before .before .before .before .before .before .before .args .job .now)) (stateIn (sections (jobOf (c .before .before .before .before .before .before .before .before .before .before .before .before .before .before .before .before .before .before .before .args .job .now))) (lent (c .before .before .before .before .before .before .before .before .before .before .before .before .before .before .before .before .before .before .before)))
-unfolding stateIn pointIn
-acceptable-is c = c .acceptable .ensures ∙ rw (told (c .before .before .before .before .before .before .before .before .before) .1)
+-- question 22 is asked of what the rows hold; the place of the job's reading there
+abbrev read-22 : tie.After-acceptable → tie.After-read3
+read-22 c = read (asked-20 (asked-21 c) .before)
+
+acceptable-is : (c : tie.After-acceptable) → c .acceptable .result ≡ acceptable (job (read-22 c)) (stateIn (job (read-22 c)) (rows (read-22 c)))
+acceptable-is c = c .acceptable .ensures _ _
+
+enough-22 : (c : tie.After-acceptable) → enoughLent (job (read-22 c)) (rows (read-22 c)) ≡ true
+enough-22 c = enough (asked-20 (asked-21 c))
+
+-- the yes to question 21
+within : (c : tie.Else2) → withinLimit (begin (read-22 (c .before)) .args .done) (begin (read-22 (c .before)) .args .count) ≡ true
+within c = is-yes (asked-21 (c .before) .within-limit .ensures) (c .if2 .left)
 
 returns : tie.Need-returns
-returns c = run-short _ (lent (c .before .before .before .before .before .before .before .before .before .before .before .before .before)) (told (c .before .before .before) .0) _ _ (is-no (lent-enough (c .before)) (c .if1 .taken))
+returns c = run-short _ _ (told (read (c .before)) .0) _ _ (is-no (lent-enough (c .before)) (c .if1 .taken))
 
 acceptable-requires : tie.Need-acceptable-requires
 acceptable-requires c κs =
-    let t = told (c .before .before .before .before .before .before .before .before) in
-    let l = enough-lengths _ (lent (c .before .before .before .before .before .before .before .before .before .before .before .before .before .before .before .before .before .before)) (is-yes (lent-enough (c .before .before .before .before .before .before)) (c .before .before .before .before .before .if1 .left)) in
-    (t, rw (t .1) (l .heads, l .flows, l .highest, l .lowest))
+    let e = asked-20 (c .before .before .before .before) in
+    let t = told (read (e .before)) in
+    let l = enough-each _ _ (enough e) in
+    (t, rw (t .1) (l heads, l flows, l highest, l lowest))
 
 returns-2 : tie.Need-returns-2
 returns-2 c =
     let a = c .before in
-    run-beyond _ (lent (c .before .before .before .before .before .before .before .before .before .before .before .before .before .before .before .before .before .before .before .before)) (told (c .before .before .before .before .before .before .before .before .before .before) .0) _ _ (is-enough a) (is-no (c .before .before .before .before .before .before .within-limit .ensures) (c .if2 .taken))
+    run-beyond _ _ (told (read-22 a) .0) _ _ (enough-22 a) (is-no (asked-21 a .within-limit .ensures) (c .if2 .taken))
 
 returns-3 : tie.Need-returns-3
 returns-3 c =
     let a = c .before .before in
-    run-unacceptable _ (lent (c .before .before .before .before .before .before .before .before .before .before .before .before .before .before .before .before .before .before .before .before .before)) (told (c .before .before .before .before .before .before .before .before .before .before .before) .0) _ _ (is-enough a) (is-yes (c .before .before .before .before .before .before .before .within-limit .ensures) (c .before .if2 .left))
-    (is-no (acceptable-is a) (c .if3 .taken))
+    run-unacceptable _ _ (told (read-22 a) .0) _ _ (enough-22 a) (within (c .before)) (is-no (acceptable-is a) (c .if3 .taken))
 
 carry-on-requires : tie.Need-carry-on-requires
 carry-on-requires c κs =
-    let t = told (c .before .before .before .before .before .before .before .before .before .before .before .before .before .before .before .before .before) in
-    (record { accepted = t .0; count = t .1; enough = rw (t .1) (is-enough (c .before .before .before .before .before .before .before .before)) }, limit-kept _ _ (is-yes (c .before .before .before .before .before .before .before .before .before .before .before .before .before .within-limit .ensures) (c .before .before .before .before .before .before .before .if2 .left)))
+    let l = c .before .before .before .before .before .before .before in
+    let t = told (read-22 (l .before)) in
+    (record { accepted = t .0; count = t .1; enough = enough-22 (l .before) }, limit-kept _ _ (within l))
 
 returns-4 : tie.Need-returns-4
 returns-4 c =
-    run-not-read _ (lent (c .before .before .before .before .before .before .before .before .before .before .before)) _ _ _ (refused-is (c .before .before .before .before .before .before .before .before .before .before .before .args .job .now) _ (ap paperAnswer (sym (c .before .read2 .given .1)) ∙ c .before .before .before .read .ensures))
+    let s = c .before .before .before .before .before .before .before .before .before .before .before in
+    run-not-read _ _ _ _ _ (refused-is (s .args .job .now) _ (ap paperAnswer (sym (c .before .read2 .given .1)) ∙ c .before .before .before .read .ensures))
+
+abbrev asked-22 : tie.After-carry-on → tie.Else3
+asked-22 c = c .before .before .before .before .before .before .before
 
 returns-5 : tie.Need-returns-5
 returns-5 c =
-    let a = c .before .before .before .before .before .before .before .before .before .before .before .before .before .before .before .before .before .before .before .before .before in
-    let t = told (c .before .before .before .before .before .before .before .before .before .before .before .before .before .before .before .before .before .before .before .before .before .before .before .before .before .before .before .before .before .before) in
-    let limit = is-yes (c .before .before .before .before .before .before .before .before .before .before .before .before .before .before .before .before .before .before .before .before .before .before .before .before .before .before .within-limit .ensures) (c .before .before .before .before .before .before .before .before .before .before .before .before .before .before .before .before .before .before .before .before .if2 .left) in
-    let held = is-yes (acceptable-is a) (c .before .before .before .before .before .before .before .before .before .before .before .before .before .before .before .before .before .before .before .if3 .left) in
-    c .before .before .before .before .before .before .before .before .before .before .before .before .carry-on .ensures ∙ rw (t .1) (sym (run-ran _ (lent (c .before .before .before .before .before .before .before .before .before .before .before .before .before .before .before .before .before .before .before .before .before .before .before .before .before .before .before .before .before .before .before .before .before .before .before .before .before .before .before .before)) (t .0) _ _ (is-enough a) limit held))
+    let d = c .before .before .before .before .before .before .before .before .before .before .before .before in
+    let held = asked-22 d in
+    let a = held .before .before in
+    d .carry-on .ensures ∙ sym (run-ran _ _ (told (read-22 a) .0) _ _ (enough-22 a) (within (held .before)) (is-yes (acceptable-is a) (held .if3 .left)))
 
 pub run-on-spec : {M : Type 1} → statement M
 run-on-spec =

@@ -1,46 +1,70 @@
 -- `surge::start` meets its contract: questions 1 to 15, then 20, then the start. Assumes nothing.
 use mathlib.Core.Path.{_≡_, sym, ap, _∙_}
+use mathlib.Core.Bool.{true}
 use borrow.Author.Needs.{needs}
-use Rattle.job.specs.Job.{sections}
+use Rattle.job.specs.Job.{Job, sections}
 use Rattle.job.specs.Format.{jobOf}
 use Rattle.job.specs.Questions.{Accepted}
 use Rattle.job.specs.Answer.{paperAnswer}
 use Rattle.job.proofs.FirstNo.{is-yes, is-no}
 use Rattle.job.proofs.AnswerLaws.{refused-is, accepted-is}
-use Rattle.recurrence.specs.Calls.{Rows, enoughLent, six}
-use Rattle.surge.proofs.Left.{start-not-read, start-short, start-ran}
+use Rattle.recurrence.specs.Calls.{Rows, enoughLent}
+use Rattle.recurrence.specs.Slices.{lent}
+use Rattle.surge.proofs.Left.{enough-is, start-not-read, start-short, start-ran}
 use Rattle.surge.proofs.start.Statement.{statement}
 use Rattle.surge.proofs.start.Tie as tie
 
--- the rows as they are lent
-abbrev lent : tie.Start → Rows
-lent c = six (c .args .heads .now) (c .args .flows .now) (c .args .highest .now) (c .args .lowest .now) (c .args .spare-heads .now) (c .args .spare-flows .now)
+-- where the call starts, and where the job has been read
+abbrev begin : tie.After-read3 → tie.Start
+begin c = c .before .before .before .before .before .before .before .before .before .before
 
--- what `read` tells of an accepted job, and question 20
-told : (c : tie.After-read3) → (Accepted (c .before .before .before .before .before .before .before .before .before .before .args .job .now)) × (c .read3 .given .0 .0 ≡ sections (jobOf (c .before .before .before .before .before .before .before .before .before .before .args .job .now)))
+abbrev read : tie.After-enough → tie.After-read3
+read c = c .before .before
+
+-- the job, and the rows as they are lent
+abbrev job : tie.After-read3 → Job
+job c = jobOf (begin c .args .job .now)
+
+abbrev rows : tie.After-read3 → Rows
+rows c =
+    let a = begin c .args in
+    lent (a .heads) (a .flows) (a .highest) (a .lowest) (a .spare-heads) (a .spare-flows)
+
+-- what `read` tells of an accepted job
+told : (c : tie.After-read3) → (Accepted (begin c .args .job .now)) × (c .read3 .given .0 .0 ≡ sections (job c))
 told c =
-    let t = accepted-is (c .before .before .before .before .before .before .before .before .before .before .args .job .now) _ _ (ap paperAnswer (sym (c .read3 .given .1)) ∙ c .before .before .read .ensures) in
+    let t = accepted-is (begin c .args .job .now) _ _ (ap paperAnswer (sym (c .read3 .given .1)) ∙ c .before .before .read .ensures) in
     (t .0, t .1)
 
-lent-enough : (c : tie.After-enough) → c .enough .result ≡ enoughLent (sections (jobOf (c .before .before .before .before .before .before .before .before .before .before .before .before .args .job .now))) (lent (c .before .before .before .before .before .before .before .before .before .before .before .before))
-unfolding enoughLent
-lent-enough c = c .enough .ensures ∙ rw (told (c .before .before) .1)
+-- question 20, and its yes
+lent-enough : (c : tie.After-enough) → c .enough .result ≡ enoughLent (job (read c)) (rows (read c))
+lent-enough c = enough-is _ _ (told (read c) .1) (c .enough .ensures)
+
+enough : (c : tie.Else1) → enoughLent (job (read (c .before))) (rows (read (c .before))) ≡ true
+enough c = is-yes (lent-enough (c .before)) (c .if1 .left)
 
 returns : tie.Need-returns
-returns c = start-short _ (lent (c .before .before .before .before .before .before .before .before .before .before .before .before .before)) (told (c .before .before .before) .0) (is-no (lent-enough (c .before)) (c .if1 .taken))
+returns c = start-short _ _ (told (read (c .before)) .0) (is-no (lent-enough (c .before)) (c .if1 .taken))
 
 begin-requires : tie.Need-begin-requires
 begin-requires c κs =
-    let t = told (c .before .before .before .before .before .before .before .before .before) in
-    record { accepted = t .0; count = t .1; enough = rw (t .1) (is-yes (lent-enough (c .before .before .before .before .before .before .before)) (c .before .before .before .before .before .before .if1 .left)) }
+    let e = c .before .before .before .before .before .before in
+    let t = told (read (e .before)) in
+    record { accepted = t .0; count = t .1; enough = enough e }
 
 returns-2 : tie.Need-returns-2
 returns-2 c =
-    start-not-read _ (lent (c .before .before .before .before .before .before .before .before .before .before .before)) _ (refused-is (c .before .before .before .before .before .before .before .before .before .before .before .args .job .now) _ (ap paperAnswer (sym (c .before .read2 .given .1)) ∙ c .before .before .before .read .ensures))
+    let s = c .before .before .before .before .before .before .before .before .before .before .before in
+    start-not-read _ _ _ (refused-is (s .args .job .now) _ (ap paperAnswer (sym (c .before .read2 .given .1)) ∙ c .before .before .before .read .ensures))
+
+abbrev asked-20 : tie.After-begin → tie.Else1
+asked-20 c = c .before .before .before .before .before .before .before
 
 returns-3 : tie.Need-returns-3
 returns-3 c =
-    c .before .before .before .before .before .before .before .before .before .before .before .before .begin .ensures ∙ sym (start-ran _ (lent (c .before .before .before .before .before .before .before .before .before .before .before .before .before .before .before .before .before .before .before .before .before .before .before .before .before .before .before .before .before .before .before .before)) (told (c .before .before .before .before .before .before .before .before .before .before .before .before .before .before .before .before .before .before .before .before .before .before) .0) (is-yes (lent-enough (c .before .before .before .before .before .before .before .before .before .before .before .before .before .before .before .before .before .before .before .before)) (c .before .before .before .before .before .before .before .before .before .before .before .before .before .before .before .before .before .before .before .if1 .left)))
+    let b = c .before .before .before .before .before .before .before .before .before .before .before .before in
+    let e = asked-20 b in
+    b .begin .ensures ∙ sym (start-ran _ _ (told (read (e .before)) .0) (enough e))
 
 pub start-spec : {M : Type 1} → statement M
 start-spec =

@@ -16,8 +16,8 @@ returns : tie.Need-returns
 returns c =
     let pairs = c .before .before .before .before .before .before .before .before .before .before .before .sweep-pairs in
     let rest = c .before .before .before .before .sweep-rest .ensures in (
-      upto-done (upto-more _ _ (record { within = pairs .ensures .0; long = pairs .kept .1 .1 .1 .1 .0; stored = pairs .ensures .1 }) (omega arith) (rest .0)) (omega arith),
-      upto-done (upto-more _ _ (record { within = pairs .ensures .0; long = pairs .kept .1 .1 .1 .1 .1 .0; stored = pairs .ensures .2 }) (omega arith) (rest .1)) (omega arith),
+      upto-done (upto-more _ _ (record { within = pairs .ensures .0; long = pairs .kept .1 .1 .1 .1 .0; stored = pairs .ensures .1 .0 }) (omega arith) (rest .0)) (omega arith),
+      upto-done (upto-more _ _ (record { within = pairs .ensures .0; long = pairs .kept .1 .1 .1 .1 .1 .0; stored = pairs .ensures .1 .1 }) (omega arith) (rest .1)) (omega arith),
     )
 
 pub sweep-spec : {M : Type 1} → statement M

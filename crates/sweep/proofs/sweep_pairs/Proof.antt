@@ -5,29 +5,19 @@ use native.Mathlib.Omega.{arith}
 use lib.ListN.{length}
 use denote.Ref.{now}
 use Rattle.loops.proofs.Fill.{Upto, upto-none, fill-none, upto-more}
-use Rattle.loops.proofs.All.{all-at}
-use Rattle.sweep.specs.Sweep.{twoCpAt, innerHead, innerFlow}
-use Rattle.sweep.proofs.Sweeping.{carried, still-cut}
+use Rattle.sweep.specs.Sweep.{twoCpAt, innerAt}
+use Rattle.sweep.proofs.Sweeping.{carried, in-reach, still-cut}
 use Rattle.sweep.proofs.sweep_pairs.Statement.{statement}
 use Rattle.sweep.proofs.sweep_pairs.Tie as tie
 
 abbrev Inv-loop : tie.InvT-loop
 Inv-loop friction s heads flows new-heads₀ new-flows₀ cp₀ i₀ new-heads new-flows cp i =
-    Upto (innerHead friction s heads flows) new-heads₀ 1 (length heads - 2) i new-heads
-    × Upto (innerFlow friction s heads flows) new-flows₀ 1 (length heads - 2) i new-flows
+    Upto (λ k. innerAt friction s heads flows k .head) new-heads₀ 1 (length heads - 2) i new-heads
+    × Upto (λ k. innerAt friction s heads flows k .flow) new-flows₀ 1 (length heads - 2) i new-flows
     × (cp ≡ twoCpAt friction s heads flows i)
 
 abbrev μ-loop : tie.MeasureT-loop
 μ-loop friction s heads flows new-heads₀ new-flows₀ cp₀ i₀ new-heads new-flows cp i = length heads - i
-
-returns : tie.Need-returns Inv-loop μ-loop
-returns c = (omega arith, fill-none _ _ _, fill-none _ _ _)
-
-cp-along-requires : tie.Need-cp-along-requires Inv-loop μ-loop
-cp-along-requires c κs = (omega arith, all-at _ 0 _ (c .before .before .before .before .before .before .before .before .pre .friction-finite) (omega arith))
-
-cp-along-requires-2 : tie.Need-cp-along-requires-2 Inv-loop μ-loop
-cp-along-requires-2 c κs = (omega arith, all-at _ 1 _ (c .before .before .before .before .before .before .before .before .before .before .before .pre .friction-finite) (omega arith))
 
 loop-holds : tie.Need-loop-holds Inv-loop μ-loop
 loop-holds c =
@@ -53,16 +43,7 @@ loop-again : tie.Need-loop-again Inv-loop μ-loop
 loop-again c =
     let inv = c .before .before .before .before .before .before .before .before .loop .inv in
     let wrote = c .before .before .before .before .write-pair .ensures in
-    (upto-more _ 2 (inv .0) (omega arith) (wrote .1), upto-more _ 2 (inv .1) (omega arith) (wrote .2), wrote .0)
-
-same-length : tie.Need-same-length Inv-loop μ-loop
-same-length c = c .before .loop .inv .0 .long
-
-same-length-2 : tie.Need-same-length-2 Inv-loop μ-loop
-same-length-2 c = c .before .loop .inv .1 .long
-
-returns-2 : tie.Need-returns-2 Inv-loop μ-loop
-returns-2 c = (c .before .loop .inv .0 .within, c .before .loop .inv .0 .stored, c .before .loop .inv .1 .stored)
+    (upto-more _ 2 (inv .0) (omega arith) (wrote .1 .0), upto-more _ 2 (inv .1) (omega arith) (wrote .1 .1), wrote .0)
 
 pub sweep-pairs-spec : {M : Type 1} → statement M
 sweep-pairs-spec =
@@ -70,19 +51,19 @@ sweep-pairs-spec =
     (tie.spec
     Inv-loop
     μ-loop
-    returns
+    (λ c. (omega arith, (fill-none _ _ _, fill-none _ _ _)))
     (λ c. omega arith)
     (λ c. omega arith)
-    cp-along-requires
+    (λ c κs. in-reach (c .before .before .before .before .before .before .before .before .pre) 0 (omega arith))
     (λ c. omega arith)
     (λ c. omega arith)
-    cp-along-requires-2
+    (λ c κs. in-reach (c .before .before .before .before .before .before .before .before .before .before .before .pre) 1 (omega arith))
     loop-holds
     (λ c. omega arith)
     write-pair-requires
     (λ c. omega arith)
     (λ c. omega arith)
     loop-again
-    same-length
-    same-length-2
-    returns-2)
+    (λ c. c .before .loop .inv .0 .long)
+    (λ c. c .before .loop .inv .1 .long)
+    (λ c. (c .before .loop .inv .0 .within, (c .before .loop .inv .0 .stored, c .before .loop .inv .1 .stored))))

@@ -6,37 +6,22 @@ use native.Mathlib.Omega.{arith}
 use lib.ListN.{length}
 use denote.Ref.{now}
 use Rattle.loops.proofs.Fill.{Upto, upto-none, upto-done, upto-from}
-use Rattle.loops.proofs.All.{all-at}
 use Rattle.wave.specs.declared.HeadFlow.{HeadFlow}
-use Rattle.sweep.specs.Sweep.{innerHead, innerFlow}
-use Rattle.sweep.proofs.Sweeping.{carried, worked-out}
+use Rattle.sweep.specs.Sweep.{innerAt}
+use Rattle.sweep.proofs.Sweeping.{carried, worked-out, in-reach}
 use Rattle.sweep.proofs.sweep_rest.Statement.{statement}
 use Rattle.sweep.proofs.sweep_rest.Tie as tie
 
 abbrev Inv-loop : tie.InvT-loop
-Inv-loop friction s heads flows new-heads₀ new-flows₀ from i₀ new-heads new-flows i =
+Inv-loop friction s from heads flows new-heads₀ new-flows₀ i₀ new-heads new-flows i =
     (from ≤ i)
-    × Upto (λ k. innerHead friction s heads flows (from + k)) new-heads₀ (1 + from) (length heads - 2 - from) (i - from) new-heads
-    × Upto (λ k. innerFlow friction s heads flows (from + k)) new-flows₀ (1 + from) (length heads - 2 - from) (i - from) new-flows
+    × Upto (λ k. innerAt friction s heads flows (from + k) .head) new-heads₀ (1 + from) (length heads - 2 - from) (i - from) new-heads
+    × Upto (λ k. innerAt friction s heads flows (from + k) .flow) new-flows₀ (1 + from) (length heads - 2 - from) (i - from) new-flows
 
 abbrev μ-loop : tie.MeasureT-loop
-μ-loop friction s heads flows new-heads₀ new-flows₀ from i₀ new-heads new-flows i = length heads - i
-
-loop-holds : tie.Need-loop-holds Inv-loop μ-loop
-loop-holds c = (omega arith, rw sub-self upto-none, rw sub-self upto-none)
-
-cp-along-requires : tie.Need-cp-along-requires Inv-loop μ-loop
-cp-along-requires c κs =
-    let start = c .before .before .before .before .before .before .before .before .before in
-    (omega arith, all-at _ _ _ (start .pre .0 .friction-finite) (omega arith))
-
-inner-along-requires : tie.Need-inner-along-requires Inv-loop μ-loop
-inner-along-requires c κs =
-    let start = c .before .before .before .before .before .before .before .before .before .before .before .before in
-    (omega arith, all-at _ _ _ (start .pre .0 .friction-finite) (omega arith))
+μ-loop friction s from heads flows new-heads₀ new-flows₀ i₀ new-heads new-flows i = length heads - i
 
 loop-again : tie.Need-loop-again Inv-loop μ-loop
-unfolding innerHead innerFlow
 loop-again c =
     let turn = c .before .before .before .before .before .before .before in
     let a = c .before .before .before .before .before .before .before .before .before .before .before .before .before .args in
@@ -44,18 +29,9 @@ loop-again c =
     let cp = carried (now (a .friction)) (a .s) (now (a .heads)) (now (a .flows)) i (omega arith) (omega arith) (c .before .before .before .cp-along .ensures) in
     let x = worked-out (now (a .friction)) (a .s) (now (a .heads)) (now (a .flows)) i (i + 1) (i + 2) (omega arith) (omega arith) (omega arith) (omega arith) cp (c .inner-along .ensures) in (
       omega arith,
-      upto-from (innerHead (now (a .friction)) (a .s) (now (a .heads)) (now (a .flows))) (a .from) (omega arith) (turn .loop .inv .1) (omega arith) (omega arith) (ap (λ (x : HeadFlow). x .head) x),
-      upto-from (innerFlow (now (a .friction)) (a .s) (now (a .heads)) (now (a .flows))) (a .from) (omega arith) (turn .loop .inv .2) (omega arith) (omega arith) (ap (λ (x : HeadFlow). x .flow) x),
+      upto-from (λ k. innerAt (now (a .friction)) (a .s) (now (a .heads)) (now (a .flows)) k .head) (a .from) (omega arith) (turn .loop .inv .1) (omega arith) (omega arith) (ap (λ (x : HeadFlow). x .head) x),
+      upto-from (λ k. innerAt (now (a .friction)) (a .s) (now (a .heads)) (now (a .flows)) k .flow) (a .from) (omega arith) (turn .loop .inv .2) (omega arith) (omega arith) (ap (λ (x : HeadFlow). x .flow) x),
     )
-
-same-length : tie.Need-same-length Inv-loop μ-loop
-same-length c = c .before .loop .inv .1 .long
-
-same-length-2 : tie.Need-same-length-2 Inv-loop μ-loop
-same-length-2 c = c .before .loop .inv .2 .long
-
-returns : tie.Need-returns Inv-loop μ-loop
-returns c = (upto-done (c .before .loop .inv .1) (omega arith), upto-done (c .before .loop .inv .2) (omega arith))
 
 pub sweep-rest-spec : {M : Type 1} → statement M
 sweep-rest-spec =
@@ -63,13 +39,13 @@ sweep-rest-spec =
     (tie.spec
     Inv-loop
     μ-loop
-    loop-holds
+    (λ c. (omega arith, rw sub-self upto-none, rw sub-self upto-none))
     (λ c. omega arith)
     (λ c. omega arith)
     (λ c. omega arith)
     (λ c. omega arith)
     (λ c. omega arith)
-    cp-along-requires
+    (λ c κs. in-reach (c .before .before .before .before .before .before .before .before .before .pre .0) _ (omega arith))
     (λ c. omega arith)
     (λ c. omega arith)
     (λ c. omega arith)
@@ -77,7 +53,7 @@ sweep-rest-spec =
     (λ c. omega arith)
     (λ c. omega arith)
     (λ c. omega arith)
-    inner-along-requires
+    (λ c κs. in-reach (c .before .before .before .before .before .before .before .before .before .before .before .before .pre .0) _ (omega arith))
     (λ c. omega arith)
     (λ c. omega arith)
     (λ c. omega arith)
@@ -87,6 +63,6 @@ sweep-rest-spec =
     (λ c. omega arith)
     (λ c. omega arith)
     loop-again
-    same-length
-    same-length-2
-    returns)
+    (λ c. c .before .loop .inv .1 .long)
+    (λ c. c .before .loop .inv .2 .long)
+    (λ c. (upto-done (c .before .loop .inv .1) (omega arith), upto-done (c .before .loop .inv .2) (omega arith))))

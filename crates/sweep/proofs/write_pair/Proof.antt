@@ -5,28 +5,14 @@ use native.Mathlib.Omega.{arith}
 use lib.ListN.{length-set}
 use denote.Ref.{now}
 use Rattle.loops.proofs.Fill.{fill-two}
-use Rattle.loops.proofs.All.{all-at}
 use Rattle.wave.specs.declared.HeadFlow.{HeadFlow}
 use Rattle.sweep.specs.declared.TwoCp.{TwoCp}
-use Rattle.sweep.specs.Sweep.{innerHead, innerFlow}
-use Rattle.sweep.proofs.Sweeping.{carried, worked-out}
+use Rattle.sweep.specs.Sweep.{innerAt}
+use Rattle.sweep.proofs.Sweeping.{carried, worked-out, in-reach}
 use Rattle.sweep.proofs.write_pair.Statement.{statement}
 use Rattle.sweep.proofs.write_pair.Tie as tie
 
-inner-along-requires : tie.Need-inner-along-requires
-inner-along-requires c κs = (omega arith, all-at _ _ _ (c .before .before .before .before .before .before .before .before .before .pre .0 .friction-finite) (omega arith))
-
-inner-along-requires-2 : tie.Need-inner-along-requires-2
-inner-along-requires-2 c κs = (omega arith, all-at _ _ _ (c .before .before .before .before .before .before .before .before .before .before .pre .0 .friction-finite) (omega arith))
-
-cp-along-requires : tie.Need-cp-along-requires
-cp-along-requires c κs = (omega arith, all-at _ _ _ (c .before .before .before .before .before .before .before .before .before .before .before .pre .0 .friction-finite) (omega arith))
-
-cp-along-requires-2 : tie.Need-cp-along-requires-2
-cp-along-requires-2 c κs = (omega arith, all-at _ _ _ (c .before .before .before .before .before .before .before .before .before .before .before .before .pre .0 .friction-finite) (omega arith))
-
 returns : tie.Need-returns
-unfolding innerHead innerFlow
 returns c =
     let start = c .before .before .before .before .before .before .before .before .before .before .before .before .before in
     let a = start .args in
@@ -43,8 +29,10 @@ returns c =
         carried friction (a .s) heads flows (i + 3) (omega arith) (omega arith) (c .cp-along2 .ensures),
         e,
       ),
-      fill-two (innerHead friction (a .s) heads flows) (now (a .new-heads)) i (omega arith) (omega arith) (ap (λ (z : HeadFlow). z .head) x) (ap (λ (z : HeadFlow). z .head) y),
-      fill-two (innerFlow friction (a .s) heads flows) (now (a .new-flows)) i (omega arith) (omega arith) (ap (λ (z : HeadFlow). z .flow) x) (ap (λ (z : HeadFlow). z .flow) y),
+      (
+        fill-two (λ k. innerAt friction (a .s) heads flows k .head) (now (a .new-heads)) i (omega arith) (omega arith) (ap (λ (z : HeadFlow). z .head) x) (ap (λ (z : HeadFlow). z .head) y),
+        fill-two (λ k. innerAt friction (a .s) heads flows k .flow) (now (a .new-flows)) i (omega arith) (omega arith) (ap (λ (z : HeadFlow). z .flow) x) (ap (λ (z : HeadFlow). z .flow) y),
+      ),
     )
 
 pub write-pair-spec : {M : Type 1} → statement M
@@ -64,15 +52,9 @@ write-pair-spec =
     (λ c. omega arith)
     (λ c. omega arith)
     (λ c. omega arith)
-    inner-along-requires
+    (λ c κs. in-reach (c .before .before .before .before .before .before .before .before .before .pre .0) _ (omega arith))
     (λ c. omega arith)
-    inner-along-requires-2
-    (λ c. omega arith)
-    (λ c. omega arith)
-    (λ c. omega arith)
-    (λ c. omega arith)
-    (λ c. omega arith)
-    (λ c. simp length-set (omega arith))
+    (λ c κs. in-reach (c .before .before .before .before .before .before .before .before .before .before .pre .0) _ (omega arith))
     (λ c. omega arith)
     (λ c. omega arith)
     (λ c. omega arith)
@@ -80,9 +62,15 @@ write-pair-spec =
     (λ c. omega arith)
     (λ c. simp length-set (omega arith))
     (λ c. omega arith)
-    cp-along-requires
     (λ c. omega arith)
-    cp-along-requires-2
+    (λ c. omega arith)
+    (λ c. omega arith)
+    (λ c. omega arith)
+    (λ c. simp length-set (omega arith))
+    (λ c. omega arith)
+    (λ c κs. in-reach (c .before .before .before .before .before .before .before .before .before .before .before .pre .0) _ (omega arith))
+    (λ c. omega arith)
+    (λ c κs. in-reach (c .before .before .before .before .before .before .before .before .before .before .before .before .pre .0) _ (omega arith))
     (λ c. simp length-set)
     (λ c. simp length-set)
     returns)

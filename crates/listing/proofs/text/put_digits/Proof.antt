@@ -13,10 +13,10 @@ use Rattle.listing.proofs.text.put_digits.Statement.{statement}
 use Rattle.listing.proofs.text.put_digits.Tie as tie
 
 abbrev Inv-loop : tie.InvT-loop
-Inv-loop n base count out₀ at i₀ left₀ out i left = (i ≤ count) × (length out ≡ length out₀) × (sets out at (digits base i left) ≡ sets out₀ at (digits base count n))
+Inv-loop n base count at out₀ i₀ left₀ out i left = (i ≤ count) × (length out ≡ length out₀) × (sets out at (digits left base i) ≡ sets out₀ at (digits n base count))
 
 abbrev μ-loop : tie.MeasureT-loop
-μ-loop n base count out₀ at i₀ left₀ out i left = i
+μ-loop n base count at out₀ i₀ left₀ out i left = i
 
 loop-holds : tie.Need-loop-holds Inv-loop μ-loop
 loop-holds c = (le-refl _, refl, refl)
@@ -32,13 +32,13 @@ loop-again c =
     let a = s .before .before .args in (
       omega arith,
       length-set (s .loop .out) _ _ ∙ s .loop .inv .1,
-      rw (c .digit-code .ensures) (lowest-first (a .base) (s .loop .i) (s .loop .left) (a .at) (s .loop .out) (c .before .loop-test .taken) ∙ s .loop .inv .2),
+      rw (c .digit-code .ensures) (lowest-first (s .loop .left) (a .base) (s .loop .i) (a .at) (s .loop .out) (c .before .loop-test .taken) ∙ s .loop .inv .2),
     )
 
 -- no digit is left
-none-left : (base i n at : ℕ) (l : List ℕ) → i ≤ 0 → l ≡ sets l at (digits base i n)
+none-left : (n base i at : ℕ) (l : List ℕ) → i ≤ 0 → l ≡ sets l at (digits n base i)
 unfolding digits
-none-left base i n at l h =
+none-left n base i at l h =
     let e : i ≡ 0 = omega arith in
     rw e
 
@@ -47,8 +47,8 @@ returns c =
     let s = c .before in
     let a = s .before .before .args in (
       record {
-        bytes = none-left (a .base) (s .loop .i) (s .loop .left) (a .at) (s .loop .out) (c .loop-test .left) ∙ s .loop .inv .2;
-        after = ap (λ (k : ℕ). a .at + k) (sym (length-digits (a .base) (a .count) (a .n)));
+        bytes = none-left (s .loop .left) (a .base) (s .loop .i) (a .at) (s .loop .out) (c .loop-test .left) ∙ s .loop .inv .2;
+        after = ap (λ (k : ℕ). a .at + k) (sym (length-digits (a .n) (a .base) (a .count)));
       },
       refl,
     )

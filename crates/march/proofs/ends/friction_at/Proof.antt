@@ -1,11 +1,11 @@
--- `march::ends::friction_at` meets its contract. Assumes nothing.
+-- `march::ends::friction_at` meets its contract: an accepted job has an R in table 3 for each reach. Assumes nothing.
 use mathlib.Core.Path.{_∙_}
 use native.Mathlib.Omega.{arith}
 use borrow.Author.Needs.{needs}
 use Rattle.job.specs.Job.{frictionAt}
 use Rattle.job.specs.Format.{jobOf}
 use Rattle.job.proofs.Accepted.{friction-fits}
-use Rattle.march.proofs.Accept.{pairs-accepted, friction-long}
+use Rattle.march.proofs.Accept.{pairs-accepted, friction-length}
 use Rattle.march.proofs.ends.friction_at.Statement.{statement}
 use Rattle.march.proofs.ends.friction_at.Tie as tie
 
@@ -15,7 +15,7 @@ table-requires c κs = (pairs-accepted _ (c .before .pre .0), search needs)
 r-at-requires : tie.Need-r-at-requires
 r-at-requires c κs =
     let pre = c .before .before .pre in
-    rw (c .table .ensures) (friction-fits _ (pre .0), omega (arith, friction-long _ (pre .0)))
+    rw (c .table .ensures) (friction-fits _ (pre .0), omega (arith, friction-length _ (pre .0)))
 
 returns : tie.Need-returns
 unfolding frictionAt jobOf

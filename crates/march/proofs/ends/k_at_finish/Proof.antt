@@ -8,7 +8,7 @@ use Rattle.job.specs.Job.{sections}
 use Rattle.job.specs.Format.{jobOf}
 use Rattle.recurrence.specs.Step.{inputs, along, kAtFinish}
 use Rattle.march.specs.March.{laidOf}
-use Rattle.march.proofs.Accept.{Within, within, few-sections, few-reaches}
+use Rattle.march.proofs.Accept.{Within, within}
 use Rattle.march.proofs.Held.{read-head, read-flow}
 use Rattle.march.proofs.ends.k_at_finish.Statement.{statement}
 use Rattle.march.proofs.ends.k_at_finish.Tie as tie
@@ -16,30 +16,6 @@ use Rattle.march.proofs.ends.k_at_finish.Tie as tie
 -- where the pipe lies
 lies : (c : tie.Start) → Within (c .args .job .now) (c .pre .0 .accepted) (laidOf (c .args .l))
 lies c = within (c .args .job .now) (c .pre .0 .accepted) (laidOf (c .args .l)) (c .pre .1)
-
-sub-i : tie.Need-sub-i
-sub-i c = let s = c .before .before .before .before in omega (arith, lies s)
-
-add-at : tie.Need-add-at
-add-at c = let s = c .before .before .before .before .before in omega (arith, lies s, few-sections _ (s .pre .0 .accepted))
-
-add-friction-at : tie.Need-add-friction-at
-add-friction-at c = let s = c .before .before .before .before .before .before in omega (arith, lies s, few-reaches _ (s .pre .0 .accepted))
-
-friction-at-requires : tie.Need-friction-at-requires
-friction-at-requires c κs = let s = c .before .before .before .before .before .before in (s .pre .0 .accepted, omega (arith, lies s))
-
-mul-finish-k : tie.Need-mul-finish-k
-mul-finish-k c = let s = c .before .before .before .before .before .before .before in omega (arith, lies s, few-sections _ (s .pre .0 .accepted))
-
-shared-slice-read-finish-k : tie.Need-shared-slice-read-finish-k
-shared-slice-read-finish-k c = let s = c .before .before .before .before .before .before .before .before in omega (arith, lies s, s .pre .0 .heads-long)
-
-mul-finish-k-2 : tie.Need-mul-finish-k-2
-mul-finish-k-2 c = let s = c .before .before .before .before .before .before .before .before in omega (arith, lies s, few-sections _ (s .pre .0 .accepted))
-
-shared-slice-read-finish-k-2 : tie.Need-shared-slice-read-finish-k-2
-shared-slice-read-finish-k-2 c = let s = c .before .before .before .before .before .before .before .before .before in omega (arith, lies s, s .pre .0 .flows-long)
 
 returns : tie.Need-returns
 unfolding kAtFinish along inputs
@@ -53,13 +29,13 @@ pub k-at-finish-spec : {M : Type 1} → statement M
 k-at-finish-spec =
     tie.close
     (tie.spec
-    sub-i
-    add-at
-    add-friction-at
-    friction-at-requires
-    mul-finish-k
-    shared-slice-read-finish-k
-    mul-finish-k-2
-    shared-slice-read-finish-k-2
+    (λ c. omega (arith, lies (c .before .before .before .before)))
+    (λ c. omega (arith, lies (c .before .before .before .before .before)))
+    (λ c. omega (arith, lies (c .before .before .before .before .before .before)))
+    (λ c κs. let s = c .before .before .before .before .before .before in (s .pre .0 .accepted, omega (arith, lies s)))
+    (λ c. omega (arith, lies (c .before .before .before .before .before .before .before)))
+    (λ c. let s = c .before .before .before .before .before .before .before .before in omega (arith, lies s, s .pre .0 .heads-long))
+    (λ c. omega (arith, lies (c .before .before .before .before .before .before .before .before)))
+    (λ c. let s = c .before .before .before .before .before .before .before .before .before in omega (arith, lies s, s .pre .0 .flows-long))
     (λ c κs. search needs)
     returns)

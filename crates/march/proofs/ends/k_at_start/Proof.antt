@@ -8,7 +8,7 @@ use Rattle.job.specs.Job.{sections}
 use Rattle.job.specs.Format.{jobOf}
 use Rattle.recurrence.specs.Step.{inputs, along, kAtStart}
 use Rattle.march.specs.March.{laidOf}
-use Rattle.march.proofs.Accept.{Within, within, few-sections}
+use Rattle.march.proofs.Accept.{Within, within}
 use Rattle.march.proofs.Held.{read-head, read-flow}
 use Rattle.march.proofs.ends.k_at_start.Statement.{statement}
 use Rattle.march.proofs.ends.k_at_start.Tie as tie
@@ -16,24 +16,6 @@ use Rattle.march.proofs.ends.k_at_start.Tie as tie
 -- where the pipe lies
 lies : (c : tie.Start) → Within (c .args .job .now) (c .pre .0 .accepted) (laidOf (c .args .l))
 lies c = within (c .args .job .now) (c .pre .0 .accepted) (laidOf (c .args .l)) (c .pre .1)
-
-add-at : tie.Need-add-at
-add-at c = let s = c .before .before .before .before in omega (arith, lies s, few-sections _ (s .pre .0 .accepted))
-
-friction-at-requires : tie.Need-friction-at-requires
-friction-at-requires c κs = let s = c .before .before .before .before in (s .pre .0 .accepted, omega (arith, lies s))
-
-mul-start-k : tie.Need-mul-start-k
-mul-start-k c = let s = c .before .before .before .before .before in omega (arith, lies s, few-sections _ (s .pre .0 .accepted))
-
-shared-slice-read-start-k : tie.Need-shared-slice-read-start-k
-shared-slice-read-start-k c = let s = c .before .before .before .before .before .before in omega (arith, lies s, s .pre .0 .heads-long)
-
-mul-start-k-2 : tie.Need-mul-start-k-2
-mul-start-k-2 c = let s = c .before .before .before .before .before .before in omega (arith, lies s, few-sections _ (s .pre .0 .accepted))
-
-shared-slice-read-start-k-2 : tie.Need-shared-slice-read-start-k-2
-shared-slice-read-start-k-2 c = let s = c .before .before .before .before .before .before .before in omega (arith, lies s, s .pre .0 .flows-long)
 
 returns : tie.Need-returns
 unfolding kAtStart along inputs
@@ -47,11 +29,11 @@ pub k-at-start-spec : {M : Type 1} → statement M
 k-at-start-spec =
     tie.close
     (tie.spec
-    add-at
-    friction-at-requires
-    mul-start-k
-    shared-slice-read-start-k
-    mul-start-k-2
-    shared-slice-read-start-k-2
+    (λ c. omega (arith, lies (c .before .before .before .before)))
+    (λ c κs. let s = c .before .before .before .before in (s .pre .0 .accepted, omega (arith, lies s)))
+    (λ c. omega (arith, lies (c .before .before .before .before .before)))
+    (λ c. let s = c .before .before .before .before .before .before in omega (arith, lies s, s .pre .0 .heads-long))
+    (λ c. omega (arith, lies (c .before .before .before .before .before .before)))
+    (λ c. let s = c .before .before .before .before .before .before .before in omega (arith, lies s, s .pre .0 .flows-long))
     (λ c κs. search needs)
     returns)

@@ -5,9 +5,6 @@ use Rattle.march.proofs.Accept.{pairs-accepted}
 use Rattle.march.proofs.laid.pipe_at.Statement.{statement}
 use Rattle.march.proofs.laid.pipe_at.Tie as tie
 
-table-requires : tie.Need-table-requires
-table-requires c κs = (pairs-accepted _ (c .before .pre .0 .0), search needs)
-
 start-requires : tie.Need-start-requires
 start-requires c κs = rw (c .table .ensures) (c .before .before .pre .0 .1)
 
@@ -30,13 +27,13 @@ returns c =
     let b = rw t at (c .before .before .finish .ensures .0) in
     let n = rw t at (c .before .reaches .ensures .0) in
     let s = rw t at (c .constant .ensures) in
-    λ i. record { pipe = record { start = a i; finish = b i; reaches = n i; S = s i }; first = w .sections-passed i; reach = w .reaches-passed i }
+    λ i. record { pipe = record { start = a i; finish = b i; reaches = n i; S = s i }; first = w i .section; reach = w i .reach }
 
 pub pipe-at-spec : {M : Type 1} → statement M
 pipe-at-spec =
     tie.close
     (tie.spec
-    table-requires
+    (λ c κs. (pairs-accepted _ (c .before .pre .0 .0), search needs))
     start-requires
     finish-requires
     reaches-requires

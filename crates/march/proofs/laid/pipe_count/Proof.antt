@@ -1,4 +1,4 @@
--- `march::laid::pipe_count` meets its contract. Assumes nothing.
+-- `march::laid::pipe_count` meets its contract: a pipe has twelve bytes of its table, and no accepted job has more than 32. Assumes nothing.
 use borrow.Author.Needs.{needs}
 use Rattle.march.proofs.Accept.{pairs-accepted, few-pipes}
 use Rattle.march.proofs.laid.pipe_count.Statement.{statement}

@@ -23,12 +23,6 @@ Inv-loop job n b t nodes schedules count heads₀ place₀ y₀ heads place y =
 abbrev μ-loop : tie.MeasureT-loop
 μ-loop job n b t nodes schedules count heads₀ place₀ y₀ heads place y = count - y
 
-table-requires : tie.Need-table-requires Inv-loop μ-loop
-table-requires c κs = (pairs-accepted _ (c .before .pre .0), search needs)
-
-table-requires-2 : tie.Need-table-requires-2 Inv-loop μ-loop
-table-requires-2 c κs = (pairs-accepted _ (c .before .before .pre .0), search needs)
-
 loop-holds : tie.Need-loop-holds Inv-loop μ-loop
 unfolding placeOf
 loop-holds c = (refl, search needs, upto-none)
@@ -47,24 +41,6 @@ next-place-requires c κs =
     let t = c .before .before .before .before in
     let ok = c .before .before .before .before .before .before .before .before .before .pre .0 in
     (t .before .loop .inv .0, t .before .loop .inv .1, t .loop-test .taken, rw (c .before .before .before .before .before .before .before .table .ensures) (table-short _ (tables-right _ ok .pairs) 1 (omega arith)))
-
-mul-heads : tie.Need-mul-heads Inv-loop μ-loop
-mul-heads c = omega (arith, low (c .before))
-
-element-copy-out-heads : tie.Need-element-copy-out-heads Inv-loop μ-loop
-element-copy-out-heads c = low (c .before)
-
-mul-t19 : tie.Need-mul-t19 Inv-loop μ-loop
-mul-t19 c = omega (arith, low (c .before .before))
-
-element-copy-out-t22 : tie.Need-element-copy-out-t22 Inv-loop μ-loop
-element-copy-out-t22 c = low (c .before .before)
-
-mul-heads-2 : tie.Need-mul-heads-2 Inv-loop μ-loop
-mul-heads-2 c = omega (arith, low (c .before .before .before .before))
-
-array-write-heads : tie.Need-array-write-heads Inv-loop μ-loop
-array-write-heads c = low (c .before .before .before .before)
 
 -- the node read is the recurrence's
 read : (c : tie.After-node-at Inv-loop μ-loop) → c .node-at .result ≡ nodeNow (jobOf (c .before .before .before .before .before .before .args .job .now)) (c .before .before .before .before .before .before .args .n) (c .before .before .loop .y)
@@ -85,17 +61,17 @@ node-heads-spec =
     (tie.spec
     Inv-loop
     μ-loop
-    table-requires
-    table-requires-2
+    (λ c κs. (pairs-accepted _ (c .before .pre .0), search needs))
+    (λ c κs. (pairs-accepted _ (c .before .before .pre .0), search needs))
     loop-holds
     node-at-requires
-    mul-heads
-    element-copy-out-heads
-    mul-t19
-    element-copy-out-t22
+    (λ c. omega (arith, low (c .before)))
+    (λ c. low (c .before))
+    (λ c. omega (arith, low (c .before .before)))
+    (λ c. low (c .before .before))
     (λ c κs. search needs)
-    mul-heads-2
-    array-write-heads
+    (λ c. omega (arith, low (c .before .before .before .before)))
+    (λ c. low (c .before .before .before .before))
     next-place-requires
     (λ c. search needs)
     (λ c. search needs)

@@ -12,18 +12,6 @@ use Rattle.march.proofs.pipes.new_ends.Tie as tie
 lies : (c : tie.Start) → Within (c .args .job .now) (c .pre .0 .accepted) (laidOf (c .args .l))
 lies c = within (c .args .job .now) (c .pre .0 .accepted) (laidOf (c .args .l)) (c .pre .1)
 
-mul-start-end : tie.Need-mul-start-end
-mul-start-end c = omega (arith, lies (c .before .before .before .before))
-
-element-copy-out-start-end : tie.Need-element-copy-out-start-end
-element-copy-out-start-end c = lies (c .before .before .before .before) .start-low
-
-mul-finish-end : tie.Need-mul-finish-end
-mul-finish-end c = omega (arith, lies (c .before .before .before .before .before .before .before))
-
-element-copy-out-finish-end : tie.Need-element-copy-out-finish-end
-element-copy-out-finish-end c = lies (c .before .before .before .before .before .before .before) .finish-low
-
 returns : tie.Need-returns
 returns c =
     let s = c .before .before .before .before .before .before .before .before .before in (
@@ -36,11 +24,11 @@ new-ends-spec =
     tie.close
     (tie.spec
     (λ c κs. search needs)
-    mul-start-end
-    element-copy-out-start-end
+    (λ c. omega (arith, lies (c .before .before .before .before)))
+    (λ c. omega (arith, lies (c .before .before .before .before)))
     (λ c κs. search needs)
     (λ c κs. search needs)
-    mul-finish-end
-    element-copy-out-finish-end
+    (λ c. omega (arith, lies (c .before .before .before .before .before .before .before)))
+    (λ c. omega (arith, lies (c .before .before .before .before .before .before .before)))
     (λ c κs. search needs)
     returns)

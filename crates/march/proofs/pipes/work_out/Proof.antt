@@ -6,11 +6,12 @@ use lib.ListN.{length}
 use borrow.Author.Needs.{needs}
 use Rattle.loops.specs.Loops.{fill}
 use Rattle.loops.proofs.Fill.{fill-none}
-use Rattle.job.specs.Job.{Laid, sections}
-use Rattle.job.specs.Format.{jobOf, pipeTable, pipeCount}
-use Rattle.march.specs.March.{laidOf, pipeOf, Walked, sectionsTo, newSection}
-use Rattle.march.proofs.Order.{sections-count}
-use Rattle.march.proofs.Walk.{walk-none, walk-more, walk-laid, walk-low, Low}
+use Rattle.job.specs.declared.pipes.Firsts.{Firsts}
+use Rattle.job.specs.Job.{Laid}
+use Rattle.job.specs.Format.{pipeTable, pipeCount}
+use Rattle.job.proofs.Laid.{firsts-none}
+use Rattle.march.specs.March.{laidOf, Walked, newSection}
+use Rattle.march.proofs.Walk.{walk-done, walk-more, walk-laid, walk-low, Low}
 use Rattle.march.proofs.WholePipe.{pipe-more}
 use Rattle.march.proofs.pipes.work_out.Statement.{statement}
 use Rattle.march.proofs.pipes.work_out.Tie as tie
@@ -24,9 +25,6 @@ Inv-loop job n t heads flows new-heads₀ new-flows₀ nodes count first₀ reac
 abbrev μ-loop : tie.MeasureT-loop
 μ-loop job n t heads flows new-heads₀ new-flows₀ nodes count first₀ reach₀ p₀ new-heads new-flows first reach p = count - p
 
-loop-holds : tie.Need-loop-holds Inv-loop μ-loop
-loop-holds c = (search needs, walk-none _, refl, refl, fill-none _ _ 0, fill-none _ _ 0)
-
 -- the loop has not passed the last pipe
 here : (c : tie.In-loop Inv-loop μ-loop) → c .before .loop .p < pipeCount (pipeTable (c .before .before .before .before .before .before .before .before .before .args .job .now))
 here c = omega (arith, c .before .before .pipe-count .ensures .0)
@@ -39,20 +37,11 @@ write-pipe-requires c κs =
     let s = c .before .before .before .before .before .before .before .before .before .before .before .before .before in
     let t = c .before .before .before .before in
     let inv = t .before .loop .inv in
-    ((s .pre .0 .0, walk-laid _ _ (inv .1) _ (c .before .before .before .pipe-at .ensures) (s .pre .0 .0 .accepted) (here t)), (omega (arith, inv .2, s .pre .1 .0), omega (arith, inv .3, s .pre .1 .1)))
+    ((s .pre .0 .0, walk-laid _ _ (inv .1) _ (c .before .before .before .pipe-at .ensures) (here t)), (omega (arith, inv .2, s .pre .1 .0), omega (arith, inv .3, s .pre .1 .1)))
 
 -- neither count wraps
 low : (c : tie.After-pipe-at Inv-loop μ-loop) → Low (c .before .before .loop .first) (c .before .before .loop .reach) (c .pipe-at .result .reaches)
-low c = walk-low _ _ (c .before .before .loop .inv .1) _ (c .pipe-at .ensures) (c .before .before .before .before .before .before .before .before .before .before .pre .0 .0 .accepted) (here (c .before))
-
-add-first : tie.Need-add-first Inv-loop μ-loop
-add-first c = omega (arith, low (c .before .before .before .before .before .before .before .before .before))
-
-add-first-2 : tie.Need-add-first-2 Inv-loop μ-loop
-add-first-2 c = omega (arith, low (c .before .before .before .before .before .before .before .before .before))
-
-add-reach : tie.Need-add-reach Inv-loop μ-loop
-add-reach c = omega (arith, low (c .before .before .before .before .before .before .before .before .before .before))
+low c = walk-low _ _ (c .before .before .loop .inv .1) _ (c .pipe-at .ensures) (here (c .before)) (c .before .before .before .before .before .before .before .before .before .before .pre .0 .0 .accepted)
 
 loop-again : tie.Need-loop-again Inv-loop μ-loop
 loop-again c =
@@ -60,11 +49,11 @@ loop-again c =
     let s = d .before .before .before .before .before .before .before .before .before .before in
     let inv = d .before .before .loop .inv in
     let w = c .before .before .before .before .before .before .write-pipe .ensures in
-    let laid = walk-laid _ _ (inv .1) _ (d .pipe-at .ensures) (s .pre .0 .0 .accepted) (here (d .before)) in
+    let laid = walk-laid _ _ (inv .1) _ (d .pipe-at .ensures) (here (d .before)) in
     let nodes = d .before .before .before .before .heads-at .ensures in
-    let first : laidOf (d .pipe-at .result) .first ≡ d .before .before .loop .first = ap (λ (x : Laid). x .first) (d .pipe-at .ensures) ∙ sym (inv .1 .sections-passed) in (
+    let first : laidOf (d .pipe-at .result) .first ≡ d .before .before .loop .first = ap (λ (x : Laid). x .first) (d .pipe-at .ensures) ∙ ap (λ (f : Firsts). f .section) (sym (inv .1)) in (
       search needs,
-      walk-more _ _ (inv .1) _ (d .pipe-at .ensures),
+      walk-more _ _ (inv .1) _ (d .pipe-at .ensures) (here (d .before)),
       search needs,
       search needs,
       pipe-more _ (s .pre .0 .0 .accepted) _ _ _ (laidOf (d .pipe-at .result)) laid (λ x. x .head) _ nodes first (inv .4) (w .0),
@@ -73,11 +62,8 @@ loop-again c =
 
 returns : tie.Need-returns Inv-loop μ-loop
 returns c =
-    let s = c .before .before .before .before .before .before .before .before .before in
     let inv = c .before .loop .inv in
-    let e : pipeCount (pipeTable (s .args .job .now)) ≡ c .before .loop .p = omega (arith, c .before .before .pipe-count .ensures .0) in
-    let n : sections (jobOf (s .args .job .now)) ≡ c .before .loop .first = sections-count (s .args .job .now) ∙ ap (sectionsTo (pipeOf (s .args .job .now))) e ∙ sym (inv .1 .sections-passed) in
-    rw n (inv .4, inv .5)
+    rw (walk-done _ _ (inv .1) (omega (arith, c .before .before .pipe-count .ensures .0))) (inv .4, inv .5)
 
 pub work-out-spec : {M : Type 1} → statement M
 work-out-spec =
@@ -87,12 +73,12 @@ work-out-spec =
     μ-loop
     (λ c κs. search needs)
     (λ c κs. search needs)
-    loop-holds
+    (λ c. (search needs, firsts-none _, refl, refl, fill-none _ _ 0, fill-none _ _ 0))
     pipe-at-requires
     write-pipe-requires
-    add-first
-    add-first-2
-    add-reach
+    (λ c. omega (arith, low (c .before .before .before .before .before .before .before .before .before)))
+    (λ c. omega (arith, low (c .before .before .before .before .before .before .before .before .before)))
+    (λ c. omega (arith, low (c .before .before .before .before .before .before .before .before .before .before)))
     (λ c. search needs)
     (λ c. search needs)
     loop-again

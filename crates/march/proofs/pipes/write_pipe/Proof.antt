@@ -5,7 +5,7 @@ use lib.ListN.{length, length-set}
 use borrow.Author.Needs.{needs}
 use Rattle.wave.specs.declared.HeadFlow.{HeadFlow}
 use Rattle.march.specs.March.{laidOf}
-use Rattle.march.proofs.Accept.{Within, within, few-sections}
+use Rattle.march.proofs.Accept.{Within, within}
 use Rattle.march.proofs.WholePipe.{new-middle, end-to-end}
 use Rattle.march.proofs.pipes.write_pipe.Statement.{statement}
 use Rattle.march.proofs.pipes.write_pipe.Tie as tie
@@ -13,21 +13,6 @@ use Rattle.march.proofs.pipes.write_pipe.Tie as tie
 -- where the pipe lies
 lies : (c : tie.Start) → Within (c .args .job .now) (c .pre .0 .0 .accepted) (laidOf (c .args .l))
 lies c = within (c .args .job .now) (c .pre .0 .0 .accepted) (laidOf (c .args .l)) (c .pre .0 .1)
-
-add-last : tie.Need-add-last
-add-last c = let s = c .before .before .before .before .before .before .before .before .before in omega (arith, lies s, few-sections _ (s .pre .0 .0 .accepted))
-
-mul-new-heads : tie.Need-mul-new-heads
-mul-new-heads c = let s = c .before .before .before .before .before .before .before .before .before in omega (arith, lies s, few-sections _ (s .pre .0 .0 .accepted))
-
-slice-write-new-heads : tie.Need-slice-write-new-heads
-slice-write-new-heads c = let s = c .before .before .before .before .before .before .before .before .before in omega (arith, lies s, s .pre .1 .0)
-
-mul-new-flows : tie.Need-mul-new-flows
-mul-new-flows c = let s = c .before .before .before .before .before .before .before .before .before in omega (arith, lies s, few-sections _ (s .pre .0 .0 .accepted))
-
-slice-write-new-flows : tie.Need-slice-write-new-flows
-slice-write-new-flows c = let s = c .before .before .before .before .before .before .before .before .before in omega (arith, lies s, s .pre .1 .1)
 
 write-inner-requires : tie.Need-write-inner-requires
 write-inner-requires c κs =
@@ -40,28 +25,6 @@ heads-kept c = c .write-inner .kept .1 .1 .1 .1 .0 ∙ simp length-set
 
 flows-kept : (c : tie.After-write-inner) → length (c .write-inner .last .1 .1 .1 .1 .1 .0) ≡ length (c .before .before .before .before .before .before .before .before .before .before .before .before .args .new-flows .now)
 flows-kept c = c .write-inner .kept .1 .1 .1 .1 .1 .0 ∙ simp length-set
-
-mul-new-heads-2 : tie.Need-mul-new-heads-2
-mul-new-heads-2 c = let s = c .before .before .before .before .before .before .before .before .before .before .before .before .before .before .before .before in omega (arith, lies s, few-sections _ (s .pre .0 .0 .accepted))
-
-slice-write-new-heads-2 : tie.Need-slice-write-new-heads-2
-slice-write-new-heads-2 c =
-    let s = c .before .before .before .before .before .before .before .before .before .before .before .before .before .before .before .before in
-    omega (arith, lies s, s .pre .1 .0, heads-kept (c .before .before .before .before))
-
-mul-new-flows-2 : tie.Need-mul-new-flows-2
-mul-new-flows-2 c = let s = c .before .before .before .before .before .before .before .before .before .before .before .before .before .before .before .before in omega (arith, lies s, few-sections _ (s .pre .0 .0 .accepted))
-
-slice-write-new-flows-2 : tie.Need-slice-write-new-flows-2
-slice-write-new-flows-2 c =
-    let s = c .before .before .before .before .before .before .before .before .before .before .before .before .before .before .before .before in
-    omega (arith, lies s, s .pre .1 .1, flows-kept (c .before .before .before .before))
-
-same-length : tie.Need-same-length
-same-length c = simp length-set (heads-kept (c .before .before .before .before))
-
-same-length-2 : tie.Need-same-length-2
-same-length-2 c = simp length-set (flows-kept (c .before .before .before .before))
 
 returns : tie.Need-returns
 returns c =
@@ -78,16 +41,16 @@ write-pipe-spec =
     tie.close
     (tie.spec
     (λ c κs. search needs)
-    add-last
-    mul-new-heads
-    slice-write-new-heads
-    mul-new-flows
-    slice-write-new-flows
+    (λ c. omega (arith, lies (c .before .before .before .before .before .before .before .before .before)))
+    (λ c. omega (arith, lies (c .before .before .before .before .before .before .before .before .before)))
+    (λ c. let s = c .before .before .before .before .before .before .before .before .before in omega (arith, lies s, s .pre .1 .0))
+    (λ c. omega (arith, lies (c .before .before .before .before .before .before .before .before .before)))
+    (λ c. let s = c .before .before .before .before .before .before .before .before .before in omega (arith, lies s, s .pre .1 .1))
     write-inner-requires
-    mul-new-heads-2
-    slice-write-new-heads-2
-    mul-new-flows-2
-    slice-write-new-flows-2
-    same-length
-    same-length-2
+    (λ c. omega (arith, lies (c .before .before .before .before .before .before .before .before .before .before .before .before .before .before .before .before)))
+    (λ c. let s = c .before .before .before .before .before .before .before .before .before .before .before .before .before .before .before .before in omega (arith, lies s, s .pre .1 .0, heads-kept (c .before .before .before .before)))
+    (λ c. omega (arith, lies (c .before .before .before .before .before .before .before .before .before .before .before .before .before .before .before .before)))
+    (λ c. let s = c .before .before .before .before .before .before .before .before .before .before .before .before .before .before .before .before in omega (arith, lies s, s .pre .1 .1, flows-kept (c .before .before .before .before)))
+    (λ c. simp length-set (heads-kept (c .before .before .before .before)))
+    (λ c. simp length-set (flows-kept (c .before .before .before .before)))
     returns)

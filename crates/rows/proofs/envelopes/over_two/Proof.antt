@@ -10,13 +10,10 @@ use Rattle.rows.proofs.envelopes.over_two.Statement.{statement}
 use Rattle.rows.proofs.envelopes.over_two.Tie as tie
 
 abbrev Inv-loop : tie.InvT-loop
-Inv-loop highs₀ lows₀ first second n i₀ highs lows i = Upto (raisedTwiceAt highs₀ first second) highs₀ 0 n i highs × Upto (loweredTwiceAt lows₀ first second) lows₀ 0 n i lows
+Inv-loop n first second highest₀ lowest₀ i₀ highest lowest i = Upto (raisedTwiceAt first second highest₀) highest₀ 0 n i highest × Upto (loweredTwiceAt first second lowest₀) lowest₀ 0 n i lowest
 
 abbrev μ-loop : tie.MeasureT-loop
-μ-loop highs₀ lows₀ first second n i₀ highs lows i = n - i
-
-loop-holds : tie.Need-loop-holds Inv-loop μ-loop
-loop-holds c = (upto-none, upto-none)
+μ-loop n first second highest₀ lowest₀ i₀ highest lowest i = n - i
 
 loop-again : tie.Need-loop-again Inv-loop μ-loop
 unfolding raisedTwiceAt loweredTwiceAt raisedAt loweredAt
@@ -28,22 +25,13 @@ loop-again c =
       own-step-twice lowered (now (lent .first)) (now (lent .second)) (here .loop .inv .1) (omega arith) (omega arith) (omega arith) (omega arith) (c .before .before .lesser .ensures) (c .lesser2 .ensures),
     )
 
-same-length : tie.Need-same-length Inv-loop μ-loop
-same-length c = c .before .loop .inv .0 .long
-
-same-length-2 : tie.Need-same-length-2 Inv-loop μ-loop
-same-length-2 c = c .before .loop .inv .1 .long
-
-returns : tie.Need-returns Inv-loop μ-loop
-returns c = (upto-done (c .before .loop .inv .0) (c .loop-test .left), upto-done (c .before .loop .inv .1) (c .loop-test .left))
-
 pub over-two-spec : {M : Type 1} → statement M
 over-two-spec =
     tie.close
     (tie.spec
     Inv-loop
     μ-loop
-    loop-holds
+    (λ c. (upto-none, upto-none))
     (λ c. search needs)
     (λ c. search needs)
     (λ c. search needs)
@@ -67,6 +55,6 @@ over-two-spec =
     (λ c. search needs)
     (λ c. search needs)
     loop-again
-    same-length
-    same-length-2
-    returns)
+    (λ c. c .before .loop .inv .0 .long)
+    (λ c. c .before .loop .inv .1 .long)
+    (λ c. (upto-done (c .before .loop .inv .0) (c .loop-test .left), upto-done (c .before .loop .inv .1) (c .loop-test .left))))

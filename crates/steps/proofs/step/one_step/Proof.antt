@@ -1,62 +1,61 @@
 -- `steps::step::one_step` meets its contract: a step worked out in the spare rows, and taken over where its scan finds no fault. Assumes nothing.
-use mathlib.Core.Path.{sym, _∙_}
+use mathlib.Core.Path.{refl, sym, _∙_}
 use native.Mathlib.Omega.{arith}
 use borrow.Author.Needs.{needs}
-use Rattle.recurrence.specs.Calls.{Rows}
-use Rattle.recurrence.proofs.RowLaws.{Lengths, enough-lengths}
-use Rattle.recurrence.specs.Calls.{six}
+use Rattle.recurrence.specs.Calls.{heads, flows, highest, lowest, spareHeads, spareFlows}
+use Rattle.steps.proofs.Runs.{ready-enough, ready-long}
 use Rattle.steps.proofs.Rewritten.{one-stops, one-done}
 use Rattle.steps.proofs.step.one_step.Statement.{statement}
 use Rattle.steps.proofs.step.one_step.Tie as tie
 
--- the rows as they are lent, and their lengths
-abbrev lent : tie.Start → Rows
-lent c = six (c .args .heads .now) (c .args .flows .now) (c .args .highest .now) (c .args .lowest .now) (c .args .spare-heads .now) (c .args .spare-flows .now)
+-- where the call starts, where the step has been worked out, where its scan has found no fault, and where the envelopes have been taken
+abbrev begin : tie.After-work-out-arg4 → tie.Start
+begin c = c .before .before .before .before .before .before .before .before .before .before .before
 
-long : (c : tie.Start) → Lengths (c .args .n) (lent c)
-long c = enough-lengths (c .args .n) (lent c) (c .pre .0 .enough)
+abbrev worked : tie.Else1 → tie.After-work-out
+worked c = c .before .before .before .before .before .before
 
-abbrev begin : tie.After-work-out → tie.Start
-begin c = c .before .before .before .before .before .before .before .before .before .before .before .before
+abbrev no-fault : tie.After-over-one → tie.Else1
+no-fault c = c .before .before .before .before
+
+abbrev enveloped : tie.After-take-over-arg4 → tie.After-over-one
+enveloped c = c .before .before .before .before .before .before .before .before
 
 work-out-requires : tie.Need-work-out-requires
 work-out-requires c κs =
-    let s = c .before .before .before .before .before .before .before .before .before .before .before in
-    let l = long s in
-    let n = s .pre .0 .count in
-    ((record { accepted = s .pre .0 .accepted; heads-long = omega arith; flows-long = omega arith }, search needs, s .pre .2), (n, l .spare-heads, l .spare-flows))
+    let s = begin c in
+    let r = s .pre .0 in
+    ((record { accepted = r .accepted; heads-long = ready-enough r heads; flows-long = ready-enough r flows }, search needs, s .pre .2), (r .count, ready-long r spareHeads refl, ready-long r spareFlows refl))
 
 returns : tie.Need-returns
 returns c =
     let w = c .before .before .before .before .before .before in
-    let s = begin w in
     let e = w .work-out .ensures in
-    one-stops _ _ _ (lent s) (s .pre .0) _ _ (e .0) (e .1) _ (e .2) (sym (c .before .stops .ensures) ∙ c .if1 .taken)
+    one-stops _ _ _ _ (begin (w .before) .pre .0) _ _ (e .0 .0) (e .0 .1) _ (e .1) (sym (c .before .stops .ensures) ∙ c .if1 .taken)
 
 over-one-requires : tie.Need-over-one-requires
 over-one-requires c κs =
-    let w = c .before .before .before .before .before .before .before .before .before in
-    let l = long (begin w) in
-    (l .highest, l .lowest, omega (arith, w .work-out .kept .1 .1 .1 .1 .1 .1 .0))
+    let w = worked (c .before .before .before) in
+    let l = ready-long (begin (w .before) .pre .0) in
+    (omega (arith, l spareHeads refl, w .work-out .kept .1 .1 .1 .1 .1 .1 .0), l highest refl, l lowest refl)
 
 take-over-requires : tie.Need-take-over-requires
 take-over-requires c κs =
-    let w = c .before .before .before .before .before .before .before .before .before .before .before .before .before .before .before .before .before .before in
-    let l = long (begin w) in
+    let w = worked (no-fault (enveloped c)) in
+    let l = ready-long (begin (w .before) .pre .0) in
     let k = w .work-out .kept .1 .1 .1 .1 .1 .1 in
-    (omega (arith, k .0), omega (arith, k .1 .0), l .heads, l .flows)
-
-add-t13 : tie.Need-add-t13
-add-t13 c = let s = c .before .before .before .before .before .before .before .before .before .before .before .before .before .before .before .before .before .before .before .before .before .before .before .before .before .before .before .before .before .before .before .before .before .before .before in omega (arith, s .pre .1)
+    (omega (arith, l spareHeads refl, k .0), omega (arith, l spareFlows refl, k .1 .0), l heads refl, l flows refl)
 
 returns-2 : tie.Need-returns-2
 returns-2 c =
-    let w = c .before .before .before .before .before .before .before .before .before .before .before .before .before .before .before .before .before .before .before .before .before .before .before in
-    let s = begin w in
+    let d = c .before .before .before .before in
+    let v = enveloped (d .before) in
+    let g = no-fault v in
+    let w = worked g in
     let e = w .work-out .ensures in
-    let o = c .before .before .before .before .before .before .before .before .before .before .before .before .before .over-one .ensures in
-    let t = c .before .before .before .before .take-over .ensures in
-    one-done _ _ _ (lent s) (s .pre .0) _ _ (e .0) (e .1) _ (e .2) (sym (c .before .before .before .before .before .before .before .before .before .before .before .before .before .before .before .before .before .before .stops .ensures) ∙ c .before .before .before .before .before .before .before .before .before .before .before .before .before .before .before .before .before .if1 .left) (t .0) (t .1) (o .0) (o .1)
+    let o = v .over-one .ensures in
+    let t = d .take-over .ensures in
+    one-done _ _ _ _ (begin (w .before) .pre .0) _ _ (e .0 .0) (e .0 .1) _ (e .1) (sym (g .before .stops .ensures) ∙ g .if1 .left) (t .0) (t .1) (o .0) (o .1)
 
 pub one-step-spec : {M : Type 1} → statement M
 one-step-spec =
@@ -72,7 +71,6 @@ one-step-spec =
     returns
     over-one-requires
     take-over-requires
-    add-t13
     (λ c. search needs)
     (λ c. search needs)
     (λ c. search needs)

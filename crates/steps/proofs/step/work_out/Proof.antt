@@ -11,14 +11,14 @@ abbrev begin : tie.After-work-out → tie.Start
 begin c = c .before .before .before .before .before .before .before .before
 
 table-requires : tie.Need-table-requires
-table-requires c κs = (pairs-accepted _ (begin (c .before .before .before .before .before .before) .pre .0 .0 .accepted), search needs)
+table-requires c κs = (pairs-accepted _ (begin (c .before .before .before .before) .pre .0 .0 .accepted), search needs)
 
 scan-requires : tie.Need-scan-requires
 scan-requires c κs =
     let w = c .before .before .before .before .before .before .before in
     let s = begin w in
     let k = w .work-out .kept .1 .1 .1 .1 .1 in
-    rw (c .table .ensures)
+    rw (c .before .before .table .ensures)
     (record {
       table-long = omega (arith, initial-length _ (s .pre .0 .0 .accepted), s .pre .1 .0);
       table-fits = initial-fits _ (s .pre .0 .0 .accepted);
@@ -29,7 +29,7 @@ scan-requires c κs =
 returns : tie.Need-returns
 returns c =
     let w = c .before .before .before .before .before .before .before .before .work-out .ensures in
-    (w .0, w .1, c .scan .ensures ∙ rw (c .before .table .ensures))
+    (w, c .scan .ensures ∙ rw (c .before .before .before .table .ensures))
 
 pub work-out-spec : {M : Type 1} → statement M
 work-out-spec = tie.close (tie.spec (λ c κs. search needs) table-requires scan-requires (λ c. search needs) (λ c. search needs) returns)

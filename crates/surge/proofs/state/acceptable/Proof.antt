@@ -1,8 +1,7 @@
 -- `surge::state::acceptable` meets its contract: the floors are those of table 4. Assumes nothing.
 use mathlib.Core.Path.{_∙_}
-use mathlib.Core.List.{[]}
 use native.Mathlib.Omega.{arith}
-use Rattle.recurrence.specs.Calls.{six}
+use Rattle.recurrence.specs.Calls.{gathered}
 use borrow.Author.Needs.{needs}
 use Rattle.job.specs.Format.{jobOf}
 use Rattle.job.proofs.Accepted.{initial-length, initial-fits}
@@ -29,11 +28,11 @@ acceptable-requires c κs =
     )
 
 returns : tie.Need-returns
-returns c =
+returns c a b =
     let s = c .before .before .before .before .before .before .before in
     c .acceptable .ensures
     ∙ rw (c .before .table .ensures, s .pre .0 .1)
-    (acceptable-is (jobOf (s .args .job .now)) _ (floor-read _ (s .pre .0 .0)) (six (s .args .heads .now) (s .args .flows .now) (s .args .highest .now) (s .args .lowest .now) [] []))
+    (acceptable-is (jobOf (s .args .job .now)) _ (floor-read _ (s .pre .0 .0)) (gathered (s .args .heads .now) (s .args .flows .now) (s .args .highest .now) (s .args .lowest .now) a b))
 
 pub acceptable-spec : {M : Type 1} → statement M
 acceptable-spec = tie.close (tie.spec table-requires acceptable-requires returns)
