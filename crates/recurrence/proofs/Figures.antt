@@ -23,7 +23,7 @@ bench-table = record {
 
 pub row-figures : RowFigures
 unfolding opened
-row-figures = record { start = refl; one-step = refl; five-steps = refl; stop = refl; no-step = refl }
+row-figures = record { in-order = refl; start = refl; one-step = refl; five-steps = refl; stop = refl; no-step = refl }
 
 pub refusal-figures : RefusalFigures
 unfolding opened

@@ -38,6 +38,8 @@ abbrev pub _leaves_ : Called → Called → Type 0
 c leaves d = shown c ≡ shown d
 
 pub record RowFigures : Type 0 where
+  -- the rows in the order in which they are lent, each once
+  pub in-order : (let number : Row → ℕ = gathered 0 1 2 3 4 5 in map number allRows ≡ 0 ∷ 1 ∷ 2 ∷ 3 ∷ 4 ∷ 5 ∷ [])
   pub start : startCall jobQ lentSevens leaves record { rows = gathered (row (num 10) (num 10) (num 10)) (row (num 4) (num 4) (num 4)) (row (num 10) (num 10) (num 10)) (row (num 10) (num 10) (num 10)) cleared cleared; answer = done 0 }
   -- document 01's listing of job Q
   pub one-step : ranOn jobQ 1 leaves record { rows = gathered (row (num 10) (num 10) (num 14)) (row (num 4) (num 4) (num 0)) (row (num 10) (num 10) (num 14)) (row (num 10) (num 10) (num 10)) cleared cleared; answer = done 1 }
