@@ -61,15 +61,12 @@ pub extern "C" fn vintuqay_start(
     flows: &mut [f64],
     highest: &mut [f64],
     lowest: &mut [f64],
-    spare_heads: &mut [f64],
-    spare_flows: &mut [f64],
+    spare: &mut [f64],
 ) -> u64
-    ensures { λ r. ⌜ (let call = startCall (now (job .entry))
-        (before heads flows highest lowest «spare_heads» «spare_flows») in
-        (r ≡ packedAnswer (call .answer))
-        × (after heads flows highest lowest «spare_heads» «spare_flows» ≡ call .rows)) ⌝ }
+    ensures { λ r. ⌜ (let call = startCall (now (job .entry)) (before heads flows highest lowest spare) in
+        (r ≡ packedAnswer (call .answer)) × (after heads flows highest lowest spare ≡ call .rows)) ⌝ }
 {
-    pack_answer(surge::start(job, heads, flows, highest, lowest, spare_heads, spare_flows))
+    pack_answer(surge::start(job, heads, flows, highest, lowest, spare))
 }
 
 // The run-on: m is `done`, N is `count`.
@@ -82,25 +79,12 @@ pub extern "C" fn vintuqay_run_on(
     flows: &mut [f64],
     highest: &mut [f64],
     lowest: &mut [f64],
-    spare_heads: &mut [f64],
-    spare_flows: &mut [f64],
+    spare: &mut [f64],
 ) -> u64
-    ensures { λ r. ⌜ (let call = runOnCall (now (job .entry)) done count
-        (before heads flows highest lowest «spare_heads» «spare_flows») in
-        (r ≡ packedAnswer (call .answer))
-        × (after heads flows highest lowest «spare_heads» «spare_flows» ≡ call .rows)) ⌝ }
+    ensures { λ r. ⌜ (let call = runOnCall (now (job .entry)) done count (before heads flows highest lowest spare) in
+        (r ≡ packedAnswer (call .answer)) × (after heads flows highest lowest spare ≡ call .rows)) ⌝ }
 {
-    pack_answer(surge::run_on(
-        job,
-        done,
-        count,
-        heads,
-        flows,
-        highest,
-        lowest,
-        spare_heads,
-        spare_flows,
-    ))
+    pack_answer(surge::run_on(job, done, count, heads, flows, highest, lowest, spare))
 }
 
 // The line of a section at the front of `out`, as the count of its bytes; 0 for question 24's no.

@@ -1,14 +1,17 @@
 -- What the yes to questions 13 and 14 says of a reach and of a section. Assumes nothing.
-use mathlib.Core.Path.{_≡_}
-use mathlib.Core.Bool.{true, _&&_}
+use mathlib.Core.Path.{_≡_, refl}
+use mathlib.Core.Bool.{true, _&&_, and-assoc}
 use mathlib.Core.List.{List}
-use Prim.Native.Nat.{ℕ, _/_, _<_}
+use Prim.Native.Nat.{ℕ, zero, suc, _+_, _*_, _/_, _<_}
+use native.Mathlib.Omega.{arith}
 use lib.ListN.{length}
 use lib.Ieee.Scale.{finite}
-use Rattle.loops.proofs.All.{all-at}
+use Rattle.loops.specs.Loops.{allBelow}
+use Rattle.loops.proofs.All.{all-at, all-both}
 use Rattle.job.specs.Job.{Initial}
 use Rattle.job.specs.Format.{rIn, frictionIn, rOf, sectionIn, initialIn, initialOf}
-use Rattle.job.specs.Questions.{rFits, frictionFits, finiteSection, sectionFits, initialFits}
+use Rattle.job.specs.Questions.{notBelowZero, rFits, frictionFits, finiteSection, sectionFits, initialFits}
+use Rattle.job.specs.Asked.{numbersFinite, eachFinite, noneBelowZero, sectionsFinite, notBelowFloor, noneBelowFloor}
 use Rattle.job.proofs.Tables.{both}
 use Rattle.job.proofs.Listed.{getD-listed}
 
@@ -33,6 +36,21 @@ module _ (initial : List ℕ) where
   unfolding sectionFits
   section-finite h s l = finite-section _ (both (finiteSection (sectionIn initial s)) _ (section-fits h s l) .0)
 
+  -- question 14 by its two halves; a section has three numbers
+  pub initial-halves : initialFits initial ≡ sectionsFinite initial && noneBelowFloor initial
+  unfolding initialFits sectionFits
+  initial-halves = all-both (λ s. finiteSection (sectionIn initial s)) (λ s. notBelowFloor (sectionIn initial s)) (length initial / 24)
+
+  pub three-finite : (n : ℕ) → numbersFinite initial (n * 3) ≡ allBelow (λ s. finiteSection (sectionIn initial s)) n
+  unfolding allBelow finiteSection
+  three-finite zero = refl
+  three-finite (suc n) =
+      let p : suc n * 3 ≡ suc (suc (suc (n * 3))) = omega arith in
+      let a : n * 3 * 8 ≡ n * 24 = omega arith in
+      let b : suc (n * 3) * 8 ≡ n * 24 + 8 = omega arith in
+      let c : suc (suc (n * 3)) * 8 ≡ n * 24 + 16 = omega arith in
+      rw (p, a, b, c, three-finite n) (simp and-assoc)
+
   pub section-is : (s : ℕ) → s < length initial / 24 → initialOf initial s ≡ sectionIn initial s
   unfolding initialIn
   section-is s l = getD-listed (length initial / 24) (sectionIn initial) s _ l
@@ -45,6 +63,11 @@ module _ (friction : List ℕ) where
   pub r-finite : frictionFits friction ≡ true → (r : ℕ) → r < length friction / 8 → finite (rIn friction r) ≡ true
   unfolding rFits
   r-finite h r l = both (finite (rIn friction r)) _ (r-fits h r l) .0
+
+  -- question 13 by its two halves
+  pub friction-halves : frictionFits friction ≡ eachFinite friction && noneBelowZero friction
+  unfolding frictionFits rFits
+  friction-halves = all-both (λ r. finite (rIn friction r)) (λ r. notBelowZero (rIn friction r)) (length friction / 8)
 
   pub r-is : (r : ℕ) → r < length friction / 8 → rOf friction r ≡ rIn friction r
   unfolding frictionIn

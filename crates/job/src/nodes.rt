@@ -114,7 +114,7 @@ fn kinds_fit(nodes: &[u8]) -> bool
 }
 
 // Is the f64 at a place, which is finite, not below zero? -0 is not.
-pub fn not_below_zero(t: &[u8], at: usize) -> bool
+fn not_below_zero(t: &[u8], at: usize) -> bool
     requires { ⌜ (at + 8 ≤ length (now t)) × (finiteAt (now t) at ≡ true) ⌝ }
     ensures { λ r. ⌜ r ≡ notBelowZero (f64At (now (t .entry)) at) ⌝ }
 {

@@ -1,13 +1,17 @@
 // The tables of f64 numbers: friction, heads, flows and floors, schedules; and questions 13 to 15.
 ghost use mathlib.Core.Path.{_≡_};
-ghost use mathlib.Core.Bool.{true};
+ghost use mathlib.Core.Bool.{true, cond};
 ghost use Prim.Native.Nat.{_+_, _*_, _/_, _<_, _≤_};
 ghost use lib.ListN.{length};
+ghost use lib.Dec.{eqb};
+ghost use lib.Ieee.Scale.{finite};
 ghost use Rattle.loops.specs.Loops.{allBelow};
-ghost use Rattle.job.specs.Format.{nodeCount, rOf, sectionIn, initialOf, placeOf, entryIn};
-ghost use Rattle.job.specs.Questions.{rFits, frictionFits, frictionRight, finiteSection, sectionFits};
+ghost use Rattle.job.specs.Format.{nodeCount, rIn, rOf, sectionIn, initialOf, placeOf, entryIn};
+ghost use Rattle.job.specs.Questions.{notBelowZero, frictionFits, frictionRight, finiteSection};
 ghost use Rattle.job.specs.Questions.{initialFits, initialRight, entryFits, schedulesFit, schedulesRight};
 ghost use Rattle.job.specs.Questions.{pairQuestions, valueQuestions, firstNo};
+ghost use Rattle.job.specs.Asked.{numbersFinite, eachFinite, noneBelowZero};
+ghost use Rattle.job.specs.Asked.{sectionsFinite, notBelowFloor, noneBelowFloor};
 
 // R of reach r.
 pub fn r_at(friction: &[u8], r: usize) -> f64
@@ -39,31 +43,53 @@ pub fn floor_at(initial: &[u8], s: usize) -> f64
     fields::f64_at(initial, s * 24 + 16)
 }
 
-// 13, of reach r: is R finite and not below zero?
-fn r_fits(friction: &[u8], r: usize) -> bool
-    requires { ⌜ r < length (now friction) / 8 ⌝ }
-    ensures { λ b. ⌜ b ≡ rFits (now (friction .entry)) r ⌝ }
+// How many of the first n numbers of a table are not finite. They are counted, here and below, so that the
+// loop has no branch.
+fn not_finite(bytes: &[u8], n: usize) -> u64
+    requires { ⌜ n * 8 ≤ length (now bytes) ⌝ }
+    ensures { λ x. ⌜ eqb x 0 ≡ numbersFinite (now (bytes .entry)) n ⌝ }
 {
-    if fields::finite_at(friction, r * 8) {
-        super::nodes::not_below_zero(friction, r * 8)
-    } else {
-        false
+    let mut bad: u64 = 0;
+    let mut k = 0;
+    while k < n {
+        bad = bad + fields::not_finite_at(bytes, k * 8);
+        k += 1;
     }
+    bad
 }
 
-// 13, of each reach
+// 1 where R of reach r, which is finite, is below zero, else 0, without a branch.
+fn below_zero_at(friction: &[u8], r: usize) -> u64
+    requires { ⌜ (r < length (now friction) / 8) × (finite (rIn (now friction) r) ≡ true) ⌝ }
+    ensures { λ x. ⌜ (x ≤ 1) × (x ≡ cond (notBelowZero (rIn (now (friction .entry)) r)) 0 1) ⌝ }
+{
+    let low = fields::f64_at(friction, r * 8) < 0.0;
+    if low { 1 } else { 0 }
+}
+
+// How many R are below zero, where each is finite.
+fn below_zero(friction: &[u8]) -> u64
+    requires { ⌜ eachFinite (now friction) ≡ true ⌝ }
+    ensures { λ x. ⌜ eqb x 0 ≡ noneBelowZero (now (friction .entry)) ⌝ }
+{
+    let n = friction.len() / 8;
+    let mut low: u64 = 0;
+    let mut r = 0;
+    while r < n {
+        low = low + below_zero_at(friction, r);
+        r += 1;
+    }
+    low
+}
+
+// 13, of each reach: is R finite and not below zero?
 fn friction_fits(friction: &[u8]) -> bool
     ensures { λ r. ⌜ r ≡ frictionFits (now (friction .entry)) ⌝ }
 {
-    let n = friction.len() / 8;
-    let mut r = 0;
-    while r < n {
-        if !r_fits(friction, r) {
-            return false;
-        }
-        r += 1;
+    if not_finite(friction, friction.len() / 8) != 0 {
+        return false;
     }
-    true
+    below_zero(friction) == 0
 }
 
 // 13
@@ -74,43 +100,40 @@ fn friction_right(pipes: &[u8], friction: &[u8]) -> bool
     (friction.len() == super::pipes::reach_count(pipes) * 8) & friction_fits(friction)
 }
 
-// Are head, flow and floor of section s finite?
-fn finite_section(initial: &[u8], s: usize) -> bool
-    requires { ⌜ s < length (now initial) / 24 ⌝ }
-    ensures { λ r. ⌜ r ≡ finiteSection (sectionIn (now (initial .entry)) s) ⌝ }
+// 1 where the head of section s is below its floor, else 0.
+fn below_floor_at(initial: &[u8], s: usize) -> u64
+    requires { ⌜ (s < length (now initial) / 24) × (finiteSection (sectionIn (now initial) s) ≡ true) ⌝ }
+    ensures { λ x. ⌜ (x ≤ 1) × (x ≡ cond (notBelowFloor (sectionIn (now (initial .entry)) s)) 0 1) ⌝ }
 {
     let at = s * 24;
-    fields::finite_at(initial, at)
-        & fields::finite_at(initial, at + 8)
-        & fields::finite_at(initial, at + 16)
+    let low = fields::f64_at(initial, at) < fields::f64_at(initial, at + 16);
+    if low { 1 } else { 0 }
 }
 
-// 14, of section s: is all finite, and the head not below its floor?
-fn section_fits(initial: &[u8], s: usize) -> bool
-    requires { ⌜ s < length (now initial) / 24 ⌝ }
-    ensures { λ r. ⌜ r ≡ sectionFits (sectionIn (now (initial .entry)) s) ⌝ }
+// How many heads are below their floors, where all are finite.
+fn below_floor(initial: &[u8]) -> u64
+    requires { ⌜ sectionsFinite (now initial) ≡ true ⌝ }
+    ensures { λ x. ⌜ eqb x 0 ≡ noneBelowFloor (now (initial .entry)) ⌝ }
 {
-    if finite_section(initial, s) {
-        let at = s * 24;
-        !(fields::f64_at(initial, at) < fields::f64_at(initial, at + 16))
-    } else {
-        false
+    let n = initial.len() / 24;
+    let mut low: u64 = 0;
+    let mut s = 0;
+    while s < n {
+        low = low + below_floor_at(initial, s);
+        s += 1;
     }
+    low
 }
 
-// 14, of each section
+// 14, of each section: is all finite, and no head below its floor? A section has three numbers.
 fn initial_fits(initial: &[u8]) -> bool
     ensures { λ r. ⌜ r ≡ initialFits (now (initial .entry)) ⌝ }
 {
     let n = initial.len() / 24;
-    let mut s = 0;
-    while s < n {
-        if !section_fits(initial, s) {
-            return false;
-        }
-        s += 1;
+    if not_finite(initial, n * 3) != 0 {
+        return false;
     }
-    true
+    below_floor(initial) == 0
 }
 
 // 14

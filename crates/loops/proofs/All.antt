@@ -1,6 +1,6 @@
 -- A loop that asks a test of 0, 1, .., and stops at the first that fails it: whether `p` holds of every number below n.
 -- In a loop:  all-none, all-more   what has passed so far;  all-stop   the answer where one fails
--- Of the answer:  all-at, all-of
+-- Of the answer:  all-at, all-of;  all-both   of two tests
 -- Assumes nothing.
 use mathlib.Core.Path.{_≡_, refl, sym, _∙_}
 use mathlib.Core.Logic.{⊎-elim}
@@ -22,6 +22,16 @@ and-left false b h = h
 and-right : (a b : Bool) → a && b ≡ true → b ≡ true
 and-right true b h = h
 and-right false b h = cc
+
+and-swap : (a b c d : Bool) → (a && b) && (c && d) ≡ (a && c) && (b && d)
+and-swap true true c d = refl
+and-swap true false c d = sym (and-false c)
+and-swap false b c d = refl
+
+pub all-both : (p q : ℕ → Bool) (n : ℕ) → allBelow (λ i. p i && q i) n ≡ allBelow p n && allBelow q n
+unfolding allBelow
+all-both p q zero = refl
+all-both p q (suc n) = rw (all-both p q n) (and-swap (allBelow p n) (allBelow q n) (p n) (q n))
 
 module _ (p : ℕ → Bool) where
   pub all-none : allBelow p 0 ≡ true

@@ -3,8 +3,8 @@
 --             fill-step   a turn stores f n at at + n
 -- Of the result:  length-fill; fill-in, what stands in the range; fill-below and fill-above, what stands outside it; take-fill and drop-fill, the same as lists.
 -- `Filled` says the same entry by entry, and `filled` has it of `fill`.
--- Of several fills:  fill-join   one after the other is one;  fill-two   two entries side by side;  upto-more   more entries, after those stored so far;
---                    upto-from   a turn of a loop that begins at a
+-- Of several fills:  fill-cong   the same entries, the same list;  fill-join   one after the other is one;  fill-front   the first entry, and the rest;
+--                    fill-two   two entries side by side;  upto-more   more entries, after those stored so far;  upto-from   a turn of a loop that begins at a
 -- fill-list   what is filled from the first entry on is a list, and then the rest;  fill-part   a part filled and put back is the whole filled from there
 -- Assumes nothing.
 use mathlib.Core.Path.{_≡_, refl, sym, _∙_, ap}
@@ -100,12 +100,24 @@ module _ {A : Type 0} {f : ℕ → A} {old : List A} {at n : ℕ} where
 
 -- ---- several fills
 
+-- the same entries
+pub fill-cong : {A : Type 0} (f g : ℕ → A) (l : List A) (at n : ℕ) → ((i : ℕ) → i < n → f i ≡ g i) → fill f l at n ≡ fill g l at n
+unfolding fill
+fill-cong f g l at zero h = refl
+fill-cong f g l at (suc n) h = rw (fill-cong f g l at n (λ i b. h i (omega arith)), h n (omega arith))
+
 module _ {A : Type 0} (f : ℕ → A) where
   -- from a on, after a
   pub fill-join : (l : List A) (at a n : ℕ) → fill (λ i. f (a + i)) (fill f l at a) (at + a) n ≡ fill f l at (a + n)
   unfolding fill
   fill-join l at a zero = rw (add-zero a)
   fill-join l at a (suc n) = rw (fill-join l at a n, add-suc a n, add-assoc at a n)
+
+  -- the first entry, and the rest
+  pub fill-front : (l : List A) (at n : ℕ) → fill (λ i. f (suc i)) (set l at (f 0)) (at + 1) n ≡ fill f l at (suc n)
+  unfolding fill
+  fill-front l at zero = let e : at + 0 ≡ at = omega arith in rw e
+  fill-front l at (suc n) = let e : at + 1 + n ≡ at + suc n = omega arith in rw (fill-front l at n, e)
 
   -- f a and f (a + 1), side by side
   pub fill-two : (l : List A) (a : ℕ) {at j k : ℕ} {v w : A} → j ≡ at → k ≡ at + 1 → v ≡ f a → w ≡ f (suc a) → set (set l j v) k w ≡ fill (λ i. f (a + i)) l at 2

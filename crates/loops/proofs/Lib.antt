@@ -4,3 +4,4 @@ pub mod All
 pub mod First
 pub mod Fold
 pub mod Iter
+pub mod Counting

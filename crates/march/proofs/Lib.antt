@@ -1,8 +1,5 @@
-pub mod Order
-pub mod Accept
-pub mod NodeSums
-pub mod Held
-pub mod Walk
-pub mod Filling
+pub mod Above
 pub mod Inner
-pub mod WholePipe
+pub mod Spared
+pub mod Judging
+pub mod Searching

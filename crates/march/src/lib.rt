@@ -1,6 +1,4 @@
-// The new heads and flows of every section at a step, worked out in the spare rows from the old
-// state alone.
-pub mod ends;
-pub mod laid;
-pub mod nodes;
-pub mod pipes;
+// A step over all pipes, in place: a check that only reads, and a commit that overwrites heads and flows and
+// takes the new heads into the envelopes. The new ends of the pipes are in the spare.
+pub mod check;
+pub mod commit;

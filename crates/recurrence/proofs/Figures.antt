@@ -23,14 +23,17 @@ bench-table = record {
 
 pub row-figures : RowFigures
 unfolding opened
-row-figures = record { in-order = refl; start = refl; one-step = refl; five-steps = refl; stop = refl; no-step = refl }
+row-figures = record { in-order = refl; start = refl; one-step = refl; five-steps = refl; stop = refl; nan-spare = refl; no-step = refl }
 
 pub refusal-figures : RefusalFigures
 unfolding opened
 refusal-figures = record {
-  short-run-on = each _ refl refl refl refl refl refl;
-  short-start = each _ refl refl refl refl refl refl;
+  short-run-on = each _ refl refl refl refl refl;
+  short-start = each _ refl refl refl refl refl;
   just-enough = refl;
+  long-pipe = refl;
+  two-short = refl;
+  two-enough = refl;
   m-too-great = refl;
   N-too-great = refl;
   both-too-great = refl;
@@ -41,8 +44,6 @@ refusal-figures = record {
   flow-not-finite = refl;
   highest-not-finite = refl;
   lowest-not-finite = refl;
-  spare-heads-not-asked = refl;
-  spare-flows-not-asked = refl;
   past-the-count = refl;
   fifteen-before-20 = refl;
   fifteen-before-20-start = refl;

@@ -100,7 +100,6 @@ state-held j r long =
     (λ _. take-listed n (r highest) (long highest) ∙ sym (map-listed (λ p. p .highest) n (pointIn r)))
     (λ _. take-listed n (r lowest) (long lowest) ∙ sym (map-listed (λ p. p .lowest) n (pointIn r)))
     (λ f. absurd (true≢false (sym f)))
-    (λ f. absurd (true≢false (sym f)))
 
 -- ---- the rows that a call leaves
 
@@ -109,7 +108,7 @@ module _ (j : Job) (st : State) (lent : Rows) where
   unfolding holds
   holds-long e =
       let l : (f : Point → Float) → length (map f (st .points)) ≡ sections j = λ f. length-map (st .points) f ∙ e in
-      each _ (l _) (l _) (l _) (l _) (length-replicate _ _) (length-replicate _ _)
+      each _ (l _) (l _) (l _) (l _) (length-replicate _ _)
 
   pub rows-hold : Sized j st → (x : Row) → take (inUse j x) (rowsOf j st lent x) ≡ holds j st x
   unfolding rowsOf

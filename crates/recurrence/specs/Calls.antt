@@ -1,7 +1,7 @@
 -- What each public call does to the lent rows and what it answers: one definition for each call, refusals included. Definitions only.
 use mathlib.Core.Bool.{Bool, true, cond, _&&_}
 use mathlib.Core.List.{List, [], _∷_, _++_, foldr, map}
-use Prim.Native.Nat.{ℕ}
+use Prim.Native.Nat.{ℕ, _*_}
 use lib.Dec.{leb, eqb}
 use lib.ListN.{length, getD, drop, replicate}
 use lib.Ieee.{Float}
@@ -12,46 +12,43 @@ use Rattle.job.specs.Questions.{refusal}
 use Rattle.recurrence.specs.State.{Point, State}
 use Rattle.recurrence.specs.Run.{Result, refused, ran, Answer, answerOf, start, runOn}
 
--- "Heads, flows, two envelopes and two spare rows are lent slices of f64 numbers, to start and run-on alike": the name of each, and all of them in the
--- order in which they are lent.
+-- "Heads, flows, two envelopes .. are lent slices of f64 numbers, to start and run-on alike"; "The spare becomes one slice of two values per pipe end,
+-- four per pipe": the name of each, and all of them in the order in which they are lent.
 pub data Row : Type 0 where
   heads : Row
   flows : Row
   highest : Row
   lowest : Row
-  spareHeads : Row
-  spareFlows : Row
+  spare : Row
 
 abbrev pub allRows : List Row
-allRows = heads ∷ flows ∷ highest ∷ lowest ∷ spareHeads ∷ spareFlows ∷ []
+allRows = heads ∷ flows ∷ highest ∷ lowest ∷ spare ∷ []
 
 -- what the lent slices hold, each by its name
 abbrev pub Rows : Type 0
 Rows = Row → List Float
 
 -- one thing for each row, in that order, by the row's name
-abbrev pub gathered : {A : Type 0} → A → A → A → A → A → A → Row → A
-gathered h q u l a b heads = h
-gathered h q u l a b flows = q
-gathered h q u l a b highest = u
-gathered h q u l a b lowest = l
-gathered h q u l a b spareHeads = a
-gathered h q u l a b spareFlows = b
+abbrev pub gathered : {A : Type 0} → A → A → A → A → A → Row → A
+gathered h q u l e heads = h
+gathered h q u l e flows = q
+gathered h q u l e highest = u
+gathered h q u l e lowest = l
+gathered h q u l e spare = e
 
 -- whether every row passes a test
 abbrev pub every : (Row → Bool) → Bool
 every test = foldr (λ x rest. test x && rest) true allRows
 
--- how many entries of a row a job uses: "the section count", "the count in use"
+-- how many entries of a row a job uses, "the count in use": "the section count", and of the spare "four per pipe"
 abbrev pub inUse : Job → Row → ℕ
 inUse j heads = sections j
 inUse j flows = sections j
 inUse j highest = sections j
 inUse j lowest = sections j
-inUse j spareHeads = sections j
-inUse j spareFlows = sections j
+inUse j spare = length (j .pipes) * 4
 
--- question 20: "does each lent slice hold the section count?"
+-- question 20: "does each lent slice hold the section count?", and of the spare: "asks for that length of it instead"
 unfoldable pub enoughLent : Job → Rows → Bool
 enoughLent j r = every (λ x. leb (inUse j x) (length (r x)))
 
@@ -67,14 +64,13 @@ pointIn r s = record {
 unfoldable pub stateIn : Job → Rows → State
 stateIn j r = record { points = listed (sections j) (pointIn r) }
 
--- What a row holds of a state in the entries in use: a field of each point; "after an unrefused call both spare rows are +0 up to the section count".
+-- What a row holds of a state in the entries in use: a field of each point; of the spare, "after an unrefused call that many of its entries are +0".
 unfoldable pub holds : Job → State → Rows
 holds j st heads = map (λ p. p .head) (st .points)
 holds j st flows = map (λ p. p .flow) (st .points)
 holds j st highest = map (λ p. p .highest) (st .points)
 holds j st lowest = map (λ p. p .lowest) (st .points)
-holds j st spareHeads = replicate (inUse j spareHeads) zero64
-holds j st spareFlows = replicate (inUse j spareFlows) zero64
+holds j st spare = replicate (inUse j spare) zero64
 
 -- The rows after an unrefused call: "entries past the count in use are untouched".
 unfoldable pub rowsOf : Job → State → Rows → Rows

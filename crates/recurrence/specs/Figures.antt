@@ -9,7 +9,7 @@ use Rattle.root.specs.Figures.{P10}
 use Rattle.wave.specs.Figures.{BenchFigures, _is_, num}
 use Rattle.job.proofs.Figures.{jobQ}
 use Rattle.recurrence.specs.Run.{Answer, steps}
-use Rattle.recurrence.specs.Calls.{heads, flows, Rows, Called, startCall, runOnCall}
+use Rattle.recurrence.specs.Calls.{heads, flows, Rows, gathered, Called, startCall, runOnCall}
 
 -- ---- jobs of bytes, from job Q's
 
@@ -33,9 +33,9 @@ jobQTooOpen = patched jobQ ((213, 64) ∷ [])
 
 -- ---- calls
 
--- rows of four sevens: job Q and its like have three sections
+-- sevens, one more in each row than job Q and its like use: they have three sections and one pipe
 unfoldable pub lentSevens : Rows
-lentSevens x = replicate 4 (num 7)
+lentSevens x = replicate (gathered 4 4 4 4 5 x) (num 7)
 
 -- a start in such rows, and a run-on of N steps
 unfoldable pub ranOn : List ℕ → ℕ → Called

@@ -12,7 +12,7 @@ use Rattle.job.specs.Format.{jobOf}
 use Rattle.recurrence.specs.State.{State}
 use Rattle.recurrence.specs.Scan.{Cause}
 use Rattle.recurrence.specs.Run.{Answer, stopAnswer, Call, played, answers, stepsDone}
-use Rattle.recurrence.specs.Calls.{Row, heads, flows, highest, lowest, spareHeads, spareFlows, Rows, inUse, enoughLent, pointIn, holds, startCall, runOnCall}
+use Rattle.recurrence.specs.Calls.{Row, heads, flows, highest, lowest, spare, Rows, inUse, enoughLent, pointIn, holds, startCall, runOnCall}
 use Rattle.recurrence.specs.Paths.{EndAt, AtLeast, NoPath}
 use Rattle.recurrence.specs.Demand.{AlikeBut, AlikeBefore}
 
@@ -61,14 +61,13 @@ heldBy job lent cs = heldFrom job (heldAtStart job lent) cs
 unfoldable pub answersBy : List ℕ → Rows → List LentCall → List Answer
 answersBy job lent cs = answersTo job (heldAtStart job lent) cs
 
--- the rows that a caller carries from call to call: all but the spare rows
+-- the rows that a caller carries from call to call: all but the spare
 abbrev pub carried : Row → Bool
 carried heads = true
 carried flows = true
 carried highest = true
 carried lowest = true
-carried spareHeads = false
-carried spareFlows = false
+carried spare = false
 
 -- two sets of rows hold the same heads, flows and envelopes in the entries in use
 abbrev pub SameUpTo : Job → Rows → Rows → Type 0

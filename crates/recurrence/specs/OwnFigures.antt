@@ -1,6 +1,7 @@
 -- Our own figures of the recurrence, proved in proofs/Figures.antt. They were worked out apart from the definitions, in IEEE arithmetic, one rounding
 -- an operation, and chosen so that a slip in a definition changes at least one. Definitions only.
 use mathlib.Core.Path.{_≡_}
+use mathlib.Core.Bool.{true, false}
 use mathlib.Core.List.{List, [], _∷_, map}
 use Prim.Native.Nat.{ℕ}
 use lib.ListN.{set, take, replicate}
@@ -11,17 +12,20 @@ use Rattle.job.specs.Job.{Job, Pipe, Kind, junction, reservoir, valve, Schedule
 use Rattle.job.proofs.Figures.{jobQ, jobOfAllKinds}
 use Rattle.recurrence.specs.State.{startState}
 use Rattle.recurrence.specs.Run.{Answer, answerOf, started, steps, leftBy}
-use Rattle.recurrence.specs.Calls.{Row, heads, flows, highest, lowest, spareHeads, spareFlows, allRows, Rows, gathered, holds, Called, startCall, runOnCall}
+use Rattle.recurrence.specs.Calls.{Row, heads, flows, highest, lowest, spare, allRows, Rows, gathered, enoughLent, holds, Called, startCall, runOnCall}
 use Rattle.recurrence.specs.Figures.{jobQOnFloor, jobQClosing, jobQTooOpen, lentSevens, ranOn, refusal, done}
 
 -- ---- what the calls leave in the rows
 
--- three entries, and the seven that was lent past them
+-- three entries, and the seven that was lent past them; the spare of one pipe cleared, and what was lent past it
 abbrev pub row : Float → Float → Float → List Float
 row x y z = x ∷ y ∷ z ∷ num 7 ∷ []
 
+abbrev pub clearedBut : Float → List Float
+clearedBut v = num 0 ∷ num 0 ∷ num 0 ∷ num 0 ∷ v ∷ []
+
 abbrev pub cleared : List Float
-cleared = row (num 0) (num 0) (num 0)
+cleared = clearedBut (num 7)
 
 -- rows compared by their bits, and what a call leaves and answers by the bits of the rows
 abbrev pub patterns : List Float → List ℕ
@@ -37,47 +41,62 @@ shown c = (c .answer .number ∷ c .answer .steps ∷ c .answer .section ∷ [])
 abbrev pub _leaves_ : Called → Called → Type 0
 c leaves d = shown c ≡ shown d
 
+-- rows as given, but for row x
+abbrev pub but : Rows → Row → List Float → Rows
+but r heads l = gathered l (r flows) (r highest) (r lowest) (r spare)
+but r flows l = gathered (r heads) l (r highest) (r lowest) (r spare)
+but r highest l = gathered (r heads) (r flows) l (r lowest) (r spare)
+but r lowest l = gathered (r heads) (r flows) (r highest) l (r spare)
+but r spare l = gathered (r heads) (r flows) (r highest) (r lowest) l
+
 pub record RowFigures : Type 0 where
   -- the rows in the order in which they are lent, each once
-  pub in-order : (let number : Row → ℕ = gathered 0 1 2 3 4 5 in map number allRows ≡ 0 ∷ 1 ∷ 2 ∷ 3 ∷ 4 ∷ 5 ∷ [])
-  pub start : startCall jobQ lentSevens leaves record { rows = gathered (row (num 10) (num 10) (num 10)) (row (num 4) (num 4) (num 4)) (row (num 10) (num 10) (num 10)) (row (num 10) (num 10) (num 10)) cleared cleared; answer = done 0 }
+  pub in-order : (let number : Row → ℕ = gathered 0 1 2 3 4 in map number allRows ≡ 0 ∷ 1 ∷ 2 ∷ 3 ∷ 4 ∷ [])
+  pub start : startCall jobQ lentSevens leaves record { rows = gathered (row (num 10) (num 10) (num 10)) (row (num 4) (num 4) (num 4)) (row (num 10) (num 10) (num 10)) (row (num 10) (num 10) (num 10)) cleared; answer = done 0 }
   -- document 01's listing of job Q
-  pub one-step : ranOn jobQ 1 leaves record { rows = gathered (row (num 10) (num 10) (num 14)) (row (num 4) (num 4) (num 0)) (row (num 10) (num 10) (num 14)) (row (num 10) (num 10) (num 10)) cleared cleared; answer = done 1 }
+  pub one-step : ranOn jobQ 1 leaves record { rows = gathered (row (num 10) (num 10) (num 14)) (row (num 4) (num 4) (num 0)) (row (num 10) (num 10) (num 14)) (row (num 10) (num 10) (num 10)) cleared; answer = done 1 }
   -- the minimum is lowered
-  pub five-steps : ranOn jobQ 5 leaves record { rows = gathered (row (num 10) (num 10) (num 6)) (row (neg (num 4)) (neg (num 4)) (num 0)) (row (num 10) (num 14) (num 14)) (row (num 10) (num 10) (num 6)) cleared cleared; answer = done 5 }
+  pub five-steps : ranOn jobQ 5 leaves record { rows = gathered (row (num 10) (num 10) (num 6)) (row (neg (num 4)) (neg (num 4)) (num 0)) (row (num 10) (num 14) (num 14)) (row (num 10) (num 10) (num 6)) cleared; answer = done 5 }
   -- a stop at the fifth step leaves the fourth's state and envelopes
-  pub stop : ranOn jobQOnFloor 9 leaves record { rows = gathered (row (num 10) (num 10) (num 14)) (row (neg (num 4)) (neg (num 4)) (num 0)) (row (num 10) (num 14) (num 14)) (row (num 10) (num 10) (num 10)) cleared cleared; answer = record { number = 41; steps = 4; section = 2 } }
-  -- no step: the spare rows are cleared
-  pub no-step : runOnCall jobQ 3 0 lentSevens leaves record { rows = gathered (lentSevens heads) (lentSevens flows) (lentSevens highest) (lentSevens lowest) cleared cleared; answer = done 3 }
+  pub stop : ranOn jobQOnFloor 9 leaves record { rows = gathered (row (num 10) (num 10) (num 14)) (row (neg (num 4)) (neg (num 4)) (num 0)) (row (num 10) (num 14) (num 14)) (row (num 10) (num 10) (num 10)) cleared; answer = record { number = 41; steps = 4; section = 2 } }
+  -- a spare lent full of NaNs: the same step, and past the entries in use a NaN is left
+  pub nan-spare : runOnCall jobQ 0 1 (but (startCall jobQ lentSevens .rows) spare (replicate 5 nan)) leaves record { rows = but (ranOn jobQ 1 .rows) spare (clearedBut nan); answer = done 1 }
+  -- no step: the spare is cleared
+  pub no-step : runOnCall jobQ 3 0 lentSevens leaves record { rows = gathered (lentSevens heads) (lentSevens flows) (lentSevens highest) (lentSevens lowest) cleared; answer = done 3 }
 
 -- ---- refusals: the rows as they were, and the number alone
 
 abbrev pub refusedBy : ℕ → Rows → Called
 refusedBy q lent = record { rows = lent; answer = refusal q }
 
--- rows of four sevens, but for row x; with two sevens in it; with v for its third entry
-abbrev pub sevens : List Float
-sevens = replicate 4 (num 7)
-
-abbrev pub sevensBut : Row → List Float → Rows
-sevensBut heads l = gathered l sevens sevens sevens sevens sevens
-sevensBut flows l = gathered sevens l sevens sevens sevens sevens
-sevensBut highest l = gathered sevens sevens l sevens sevens sevens
-sevensBut lowest l = gathered sevens sevens sevens l sevens sevens
-sevensBut spareHeads l = gathered sevens sevens sevens sevens l sevens
-sevensBut spareFlows l = gathered sevens sevens sevens sevens sevens l
-
+-- sevens with one fewer in row x than is in use; with v for its third entry
 abbrev pub short : Row → Rows
-short x = sevensBut x (replicate 2 (num 7))
+short x = but lentSevens x (replicate (gathered 2 2 2 2 3 x) (num 7))
 
 abbrev pub holding : Float → Row → Rows
-holding v x = sevensBut x (set sevens 2 v)
+holding v x = but lentSevens x (set (lentSevens x) 2 v)
+
+-- sevens in so many entries of each row of sections, and of the spare
+abbrev pub sevens : ℕ → ℕ → Rows
+sevens n m x = replicate (gathered n n n n m x) (num 7)
+
+-- a pipe of n reaches, and a job of which only the pipes matter
+abbrev pub pipe : ℕ → ℕ → ℕ → Float → Pipe
+pipe s f n S = record { start = s; finish = f; reaches = n; S = S }
+
+abbrev pub pipesOnly : List Pipe → Job
+pipesOnly ps = record { pipes = ps; nodes = []; friction = []; initial = [] }
 
 pub record RefusalFigures : Type 0 where
-  -- question 20, of whichever row: two entries are too few for three sections, three are enough
-  pub short-run-on : (x : Row) → runOnCall jobQ 0 1 (short x) leaves refusedBy 20 (short x)
+  -- question 20, of whichever row: two entries are too few for three sections, three for the spare of one pipe, which is the section count; one more is
+  -- enough
+  pub short-run-on : (x : Row) → runOnCall jobQ 0 0 (short x) leaves refusedBy 20 (short x)
   pub short-start : (x : Row) → startCall jobQ (short x) leaves refusedBy 20 (short x)
-  pub just-enough : runOnCall jobQ 0 0 (λ x. replicate 3 (num 7)) .answer ≡ done 0
+  pub just-enough : runOnCall jobQ 0 0 (sevens 3 4) leaves record { rows = but (sevens 3 4) spare (replicate 4 (num 0)); answer = done 0 }
+  -- the spare goes by the pipes and not by the sections: four entries for five sections in one pipe, eight for four sections in two
+  pub long-pipe : enoughLent (pipesOnly (pipe 0 1 4 (num 1) ∷ [])) (sevens 5 4) ≡ true
+  pub two-short : enoughLent (pipesOnly (pipe 0 1 1 (num 1) ∷ pipe 1 2 1 (num 1) ∷ [])) (sevens 4 7) ≡ false
+  pub two-enough : enoughLent (pipesOnly (pipe 0 1 1 (num 1) ∷ pipe 1 2 1 (num 1) ∷ [])) (sevens 4 8) ≡ true
   -- question 21
   pub m-too-great : runOnCall jobQ 1_000_001 0 lentSevens leaves refusedBy 21 lentSevens
   pub N-too-great : runOnCall jobQ 0 1_000_001 lentSevens leaves refusedBy 21 lentSevens
@@ -90,9 +109,7 @@ pub record RefusalFigures : Type 0 where
   pub flow-not-finite : runOnCall jobQ 0 0 (holding infinity64 flows) .answer ≡ refusal 22
   pub highest-not-finite : runOnCall jobQ 0 0 (holding infinity64 highest) .answer ≡ refusal 22
   pub lowest-not-finite : runOnCall jobQ 0 0 (holding (neg infinity64) lowest) .answer ≡ refusal 22
-  pub spare-heads-not-asked : runOnCall jobQ 0 0 (holding nan spareHeads) .answer ≡ done 0
-  pub spare-flows-not-asked : runOnCall jobQ 0 0 (holding nan spareFlows) .answer ≡ done 0
-  pub past-the-count : runOnCall jobQ 0 0 (λ x. set sevens 3 nan) .answer ≡ done 0
+  pub past-the-count : runOnCall jobQ 0 0 (λ x. set (lentSevens x) (gathered 3 3 3 3 4 x) nan) .answer ≡ done 0
   -- "The first no decides": 1 to 15, 20, 21, 22
   pub fifteen-before-20 : runOnCall jobQTooOpen 0 1 (short heads) leaves refusedBy 15 (short heads)
   pub fifteen-before-20-start : startCall jobQTooOpen (short heads) leaves refusedBy 15 (short heads)
@@ -108,9 +125,6 @@ after j N x = patterns (holds j (leftBy (started j) (steps j N 0 (startState j))
 
 unfoldable pub answerAfter : Job → ℕ → Answer
 answerAfter j N = answerOf (steps j N 0 (startState j))
-
-abbrev pub pipe : ℕ → ℕ → ℕ → Float → Pipe
-pipe s f n S = record { start = s; finish = f; reaches = n; S = S }
 
 abbrev pub node : Kind → List Float → ScheduledNode
 node k vs = record { kind = k; schedule = vs }
@@ -194,7 +208,7 @@ pub record StepFigures : Type 0 where
   -- "At one section 40 precedes 41", and sections go upward
   pub both-faults : answerAfter bothFaults 1 ≡ record { number = 40; steps = 0; section = 1 }
   pub faults-upward : answerAfter faultsUpward 1 ≡ record { number = 41; steps = 0; section = 1 }
-  pub all-kinds : runOnCall jobOfAllKinds 0 7 (startCall jobOfAllKinds (λ x. replicate 6 zero64) .rows) .answer ≡ record { number = 41; steps = 0; section = 3 }
+  pub all-kinds : runOnCall jobOfAllKinds 0 7 (startCall jobOfAllKinds (λ x. replicate 20 zero64) .rows) .answer ≡ record { number = 41; steps = 0; section = 3 }
   -- -0 is neither greater nor less than +0
   pub zero-head : after minusZero 1 heads ≡ 0x8000_0000_0000_0000 ∷ 0x8000_0000_0000_0000 ∷ []
   pub zero-highest : after minusZero 1 highest ≡ 0 ∷ 0 ∷ []

@@ -13,12 +13,12 @@ abbrev pub LentSlice : Type 0
 LentSlice = Both Slice Slice
 
 -- the rows in a `requires`
-abbrev pub lent : Slice → Slice → Slice → Slice → Slice → Slice → Rows
-lent h q u l a b = gathered (h .now) (q .now) (u .now) (l .now) (a .now) (b .now)
+abbrev pub lent : Slice → Slice → Slice → Slice → Slice → Rows
+lent h q u l e = gathered (h .now) (q .now) (u .now) (l .now) (e .now)
 
 -- the rows in an `ensures`, as they were lent and as they are left
-abbrev pub before : LentSlice → LentSlice → LentSlice → LentSlice → LentSlice → LentSlice → Rows
-before h q u l a b = lent (h .entry) (q .entry) (u .entry) (l .entry) (a .entry) (b .entry)
+abbrev pub before : LentSlice → LentSlice → LentSlice → LentSlice → LentSlice → Rows
+before h q u l e = lent (h .entry) (q .entry) (u .entry) (l .entry) (e .entry)
 
-abbrev pub after : LentSlice → LentSlice → LentSlice → LentSlice → LentSlice → LentSlice → Rows
-after h q u l a b = lent (h .exit) (q .exit) (u .exit) (l .exit) (a .exit) (b .exit)
+abbrev pub after : LentSlice → LentSlice → LentSlice → LentSlice → LentSlice → Rows
+after h q u l e = lent (h .exit) (q .exit) (u .exit) (l .exit) (e .exit)

@@ -1,5 +1,5 @@
 pub mod Entries
 pub mod Differences
 pub mod Sound
-pub mod Counting
 pub mod InState
+pub mod Stepping

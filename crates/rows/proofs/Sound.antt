@@ -1,5 +1,5 @@
--- A section is sound where its head and flow are finite and its head is not below its floor; a fault is told by what the code reads of a section; and
--- where every section is sound the scan finds none. Assumes nothing.
+-- A section is sound where its head and flow are finite and its head is not below its floor; and where every section is sound the scan finds none.
+-- Assumes nothing.
 use mathlib.Core.Path.{_≡_, refl, sym, _∙_}
 use mathlib.Core.Bool.{Bool, true, false, not, _&&_, cond}
 use mathlib.Core.List.{List}
@@ -11,12 +11,13 @@ use lib.Ieee.Scale.{finite}
 use Rattle.loops.specs.Loops.{allBelow, firstBelow}
 use Rattle.loops.proofs.All.{all-at}
 use Rattle.loops.proofs.First.{first-none, first-more, first-stop}
+use Rattle.wave.specs.declared.HeadFlow.{HeadFlow}
 use Rattle.job.specs.Format.{sectionIn}
 use Rattle.job.specs.Questions.{finiteSection, sectionFits, initialFits}
 use Rattle.job.proofs.Tables.{both}
 use Rattle.job.proofs.SectionLaws.{finite-section}
 use Rattle.recurrence.specs.Scan.{Fault, none, fault, notFinite, parted, faultOf, earlier, acceptableAt}
-use Rattle.rows.specs.Faults.{floorIn, headFlowPoint, faultAt, isSound, acceptableIn}
+use Rattle.rows.specs.Faults.{floorIn, headFlowPoint, faultWith, isSound, soundWith, acceptableIn}
 use Rattle.rows.proofs.Entries.{read}
 
 -- ---- the floors of table 4, where question 14 has a yes
@@ -40,19 +41,16 @@ pub sound-is : (floor head flow : Float) (s : ℕ) → isSound (faultOf floor s 
 unfolding faultOf
 sound-is floor head flow s = sound-by (finite head && finite flow) (lt head floor) s
 
--- the fault told by what the code reads at section s
-pub fault-read :
-    (initial : List ℕ) (heads flows : List Float) (s : ℕ) {floor : Float} → s < length heads → s < length flows → floor ≡ floorIn initial s
-    → faultOf floor s (headFlowPoint (getD heads s nan) (getD flows s nan)) ≡ faultAt initial heads flows s
-unfolding faultAt
-fault-read initial heads flows s a b e = rw (e, read heads s a, read flows s b)
+-- a section's number does not matter
+pub sound-any : (floor : Float) (s : ℕ) (x : HeadFlow) → isSound (faultWith floor s x) ≡ soundWith floor x
+sound-any floor s x = sound-is floor (x .head) (x .flow) s ∙ sym (sound-is floor (x .head) (x .flow) 0)
 
 -- question 22 by what the code reads at section s
 pub acceptable-read :
-    (initial : List ℕ) (heads flows highest lowest : List Float) (s : ℕ) {floor : Float} {r : Bool}
+    (initial : List ℕ) (heads flows highest lowest : List Float) (s : ℕ) {floor : Float} {v : ℕ}
     → s < length heads → s < length flows → s < length highest → s < length lowest → floor ≡ floorIn initial s
-    → r ≡ acceptableAt floor record { head = getD heads s nan; flow = getD flows s nan; highest = getD highest s nan; lowest = getD lowest s nan }
-    → r ≡ acceptableIn initial heads flows highest lowest s
+    → v ≡ cond (acceptableAt floor record { head = getD heads s nan; flow = getD flows s nan; highest = getD highest s nan; lowest = getD lowest s nan }) 0 1
+    → v ≡ cond (acceptableIn initial heads flows highest lowest s) 0 1
 unfolding acceptableIn
 acceptable-read initial heads flows highest lowest s a b c d e h =
     rw (← e, ← read heads s a, ← read flows s b, ← read highest s c, ← read lowest s d) h

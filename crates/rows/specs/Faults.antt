@@ -7,6 +7,7 @@ use lib.ListN.{length}
 use lib.Ieee.{Float}
 use Rattle.loops.specs.Loops.{firstBelow}
 use Rattle.fields.specs.Real.{zero64}
+use Rattle.wave.specs.declared.HeadFlow.{HeadFlow}
 use Rattle.job.specs.Format.{sectionIn}
 use Rattle.job.specs.Questions.{initialFits}
 use Rattle.recurrence.specs.State.{Point}
@@ -23,25 +24,30 @@ floorIn initial s = sectionIn initial s .floor
 abbrev pub headFlowPoint : Float → Float → Point
 headFlowPoint head flow = record { head = head; flow = flow; highest = zero64; lowest = zero64 }
 
--- the fault of section s
-unfoldable pub faultAt : List ℕ → List Float → List Float → ℕ → Fault
-faultAt initial heads flows s = faultOf (floorIn initial s) s (headFlowPoint (entry heads s) (entry flows s))
+-- what a section with this floor, head and flow shows
+abbrev pub faultWith : Float → ℕ → HeadFlow → Fault
+faultWith floor s x = faultOf floor s (headFlowPoint (x .head) (x .flow))
 
 -- whether there is no fault
 unfoldable pub isSound : Fault → Bool
 isSound none = true
 isSound (fault c s) = false
 
--- 1 for a fault, else 0
-abbrev pub counted : Fault → ℕ
-counted f = cond (isSound f) 0 1
+-- whether a section with this floor, head and flow has no fault; its number does not matter
+abbrev pub soundWith : Float → HeadFlow → Bool
+soundWith floor x = isSound (faultWith floor 0 x)
 
-unfoldable pub soundAt : List ℕ → List Float → List Float → ℕ → Bool
-soundAt initial heads flows s = isSound (faultAt initial heads flows s)
+-- 1 for a fault, else 0
+abbrev pub counted : Float → HeadFlow → ℕ
+counted floor x = cond (soundWith floor x) 0 1
+
+-- the fault of section s, where x has the head and flow of each
+unfoldable pub faultAt : List ℕ → (ℕ → HeadFlow) → ℕ → Fault
+faultAt initial x s = faultWith (floorIn initial s) s (x s)
 
 -- "Then scans sections upward": the first fault among the first n sections
-unfoldable pub firstFault : List ℕ → ℕ → List Float → List Float → Fault
-firstFault initial n heads flows = firstBelow earlier none (faultAt initial heads flows) n
+unfoldable pub firstFault : List ℕ → ℕ → (ℕ → HeadFlow) → Fault
+firstFault initial n x = firstBelow earlier none (faultAt initial x) n
 
 -- the fault that an answer of the code stands for
 unfoldable pub foundFault : Scan → Fault

@@ -1,10 +1,14 @@
--- Rows of f64 numbers, one number a section: what each kernel stores for section s. Definitions only.
+-- Rows of f64 numbers, one number a section: what a step stores for a section. Definitions only.
+use mathlib.Core.Path.{_≡_}
 use mathlib.Core.Bool.{cond}
 use mathlib.Core.List.{List}
-use Prim.Native.Nat.{ℕ}
+use Prim.Native.Nat.{ℕ, _+_}
 use lib.ListN.{getD}
 use lib.Ieee.{Float, lt}
 use Rattle.fields.specs.Real.{zero64}
+use Rattle.loops.specs.Loops.{fill}
+use Rattle.wave.specs.declared.HeadFlow.{HeadFlow}
+use Rattle.recurrence.specs.Slices.{LentSlice}
 
 -- the number of section s in a row; past its end a row reads as +0
 abbrev pub entry : List Float → ℕ → Float
@@ -18,16 +22,15 @@ raised highest head = cond (lt highest head) head highest
 unfoldable pub lowered : Float → Float → Float
 lowered lowest head = cond (lt head lowest) head lowest
 
--- the envelopes of section s
-unfoldable pub raisedAt : List Float → List Float → ℕ → Float
-raisedAt heads highest s = raised (entry highest s) (entry heads s)
+-- an envelope by either rule, where the sections from `at` on have the new heads that `head` has
+abbrev pub enveloped : (Float → Float → Float) → (ℕ → Float) → List Float → ℕ → ℕ → Float
+enveloped rule head row at i = rule (entry row (at + i)) (head i)
 
-unfoldable pub loweredAt : List Float → List Float → ℕ → Float
-loweredAt heads lowest s = lowered (entry lowest s) (entry heads s)
-
--- the envelopes of section s over the heads of two steps
-unfoldable pub raisedTwiceAt : List Float → List Float → List Float → ℕ → Float
-raisedTwiceAt first second highest s = raised (raisedAt first highest s) (entry second s)
-
-unfoldable pub loweredTwiceAt : List Float → List Float → List Float → ℕ → Float
-loweredTwiceAt first second lowest s = lowered (loweredAt first lowest s) (entry second s)
+-- Four lent rows after a call: from entry `at` on the heads and flows that f has of n sections, both envelopes with those heads, and every other entry
+-- as it was.
+abbrev pub Stepped : (ℕ → HeadFlow) → ℕ → ℕ → LentSlice → LentSlice → LentSlice → LentSlice → Type 0
+Stepped f at n heads flows highest lowest =
+    (heads .exit .now ≡ fill (λ i. f i .head) (heads .entry .now) at n)
+    × (flows .exit .now ≡ fill (λ i. f i .flow) (flows .entry .now) at n)
+    × (highest .exit .now ≡ fill (enveloped raised (λ i. f i .head) (highest .entry .now) at) (highest .entry .now) at n)
+    × (lowest .exit .now ≡ fill (enveloped lowered (λ i. f i .head) (lowest .entry .now) at) (lowest .entry .now) at n)

@@ -1,4 +1,3 @@
 pub mod Alike
 pub mod Taken
 pub mod Runs
-pub mod Rewritten

@@ -2,16 +2,16 @@
 use mathlib.Core.Path.{_≡_, refl, sym, ap, subst, _∙_}
 use mathlib.Core.Bool.{true, false, true≢false}
 use mathlib.Core.List.{List}
-use Prim.Native.Nat.{ℕ, _+_, _-_, _≤_}
+use Prim.Native.Nat.{ℕ, _+_, _-_, _≤_, _<_}
 use native.Mathlib.Omega.{arith}
 use lib.ListN.{length}
-use Rattle.job.specs.Job.{Job, sections}
+use Rattle.job.specs.Job.{Job}
 use Rattle.job.specs.Format.{jobOf}
 use Rattle.recurrence.specs.State.{State}
 use Rattle.recurrence.specs.Step.{advanced}
 use Rattle.recurrence.specs.Scan.{Cause, fault, notFinite, parted, scan}
 use Rattle.recurrence.specs.Run.{Run, Result, ran, completed, stop, steps}
-use Rattle.recurrence.specs.Calls.{Row, Rows, inUse, stateIn}
+use Rattle.recurrence.specs.Calls.{Row, Rows, stateIn}
 use Rattle.recurrence.proofs.EachRow.{Each, untupled, tuple}
 use Rattle.recurrence.proofs.RowLaws.{Enough, enough-each, each-enough}
 use Rattle.recurrence.proofs.RunLaws.{steps-on, steps-stop, andThen, steps-join, steps-count}
@@ -29,16 +29,13 @@ SameSize before after x = length (after x) ≡ length (before x)
 abbrev pub SameSizes : Rows → Rows → Type 0
 SameSizes before after = Each (SameSize before after)
 
--- question 20 row by row, and of a row of which n entries are in use
-pub ready-enough : {job : List ℕ} {n : ℕ} {r : Rows} → Ready job n r → Enough (jobOf job) r
+-- question 20 row by row
+pub ready-enough : {job : List ℕ} {r : Rows} → Ready job r → Enough (jobOf job) r
 ready-enough k = enough-each _ _ (k .enough)
 
-pub ready-long : {job : List ℕ} {n : ℕ} {r : Rows} → Ready job n r → (x : Row) → inUse (jobOf job) x ≡ sections (jobOf job) → n ≤ length (r x)
-ready-long k x e = omega (arith, e, k .count, ready-enough k x)
-
-pub ready-kept : {job : List ℕ} {n : ℕ} {a : Rows} (b : Rows) → SameSizes a b → Ready job n a → Ready job n b
+pub ready-kept : {job : List ℕ} {a : Rows} (b : Rows) → SameSizes a b → Ready job a → Ready job b
 ready-kept {a = a} b z k =
-    record { accepted = k .accepted; count = k .count; enough = each-enough _ b (λ x. omega (arith, untupled (SameSize a b) z x, ready-enough k x)) }
+    record { accepted = k .accepted; enough = each-enough _ b (λ x. omega (arith, untupled (SameSize a b) z x, ready-enough k x)) }
 
 -- ---- what a scan found
 
@@ -130,30 +127,27 @@ module _ (job : List ℕ) (done count : ℕ) (r : Rows) where
   way-none = record { within = omega arith; sizes = tuple (SameSize r r) (λ x. refl); runs = let z : done + 0 ≡ done = omega arith in rw z (runs-none job done r) }
 
   module _ {i : ℕ} {a : Rows} (u : Underway job done count i r a) where
-    pub way-ready : {n : ℕ} → Ready job n r → Ready job n a
+    pub way-ready : Ready job r → Ready job a
     way-ready = ready-kept a (u .sizes)
 
-    -- k steps more
-    on : {b : Rows} {k : ℕ} {ended : Ended} → Runs job (done + i) k a b ended → Runs job done (i + k) r b ended
+    -- one step more
+    on : {b : Rows} {ended : Ended} → Runs job (done + i) 1 a b ended → Runs job done (i + 1) r b ended
     unfolding stops
     on next = runs-more job done r (u .runs) refl refl next
 
-    pub way-next : {b : Rows} {k : ℕ} {ended : Ended} → Runs job (done + i) k a b ended → i + k ≤ count → SameSizes a b → stops (ended .found) ≡ false → Underway job done count (i + k) r b
+    pub way-next : {b : Rows} {ended : Ended} → Runs job (done + i) 1 a b ended → i < count → SameSizes a b → stops (ended .found) ≡ false → Underway job done count (i + 1) r b
     unfolding resultOf
-    way-next {b} {k} {ended} next h z s =
-        let all : ended .steps ≡ done + (i + k) = steps-all (jobOf job) (done + i) k (stateIn (jobOf job) a) (stateIn (jobOf job) b) ended (next .result-is) s ∙ (let e : done + i + k ≡ done + (i + k) = omega arith in e) in
+    way-next {b} {ended} next h z s =
+        let all : ended .steps ≡ done + (i + 1) = steps-all (jobOf job) (done + i) 1 (stateIn (jobOf job) a) (stateIn (jobOf job) b) ended (next .result-is) s ∙ (let e : done + i + 1 ≡ done + (i + 1) = omega arith in e) in
         record {
-          within = h;
+          within = omega arith;
           sizes = tuple (SameSize r b) (λ x. untupled (SameSize a b) z x ∙ untupled (SameSize r a) (u .sizes) x);
           runs = record { result-is = rw (sound (ended .found) s, all) at (on next .result-is); rest = on next .rest };
         }
 
-    pub way-stop : {b : Rows} {k : ℕ} {ended : Ended} → i + k ≤ count → stops (ended .found) ≡ true → Runs job (done + i) k a b ended → Runs job done count r b ended
-    way-stop {b} {k} {ended} h s next =
-        let e : i + k + (count - (i + k)) ≡ count = omega arith in rw e at (runs-end job done r (on next) (count - (i + k)) s)
-
-    pub way-last : {b : Rows} {k : ℕ} {ended : Ended} → i + k ≡ count → Runs job (done + i) k a b ended → Runs job done count r b ended
-    way-last e next = rw e at (on next)
+    pub way-stop : {b : Rows} {ended : Ended} → Runs job (done + i) 1 a b ended → i < count → stops (ended .found) ≡ true → Runs job done count r b ended
+    way-stop {b} {ended} next h s =
+        let e : i + 1 + (count - (i + 1)) ≡ count = omega arith in rw e at (runs-end job done r (on next) (count - (i + 1)) s)
 
     pub way-done : count ≤ i → Runs job done count r a record { steps = done + i; found = Sound }
     way-done h = subst (λ (k : ℕ). Runs job done k r a record { steps = done + i; found = Sound }) (let e : i ≡ count = omega (arith, u .within) in e) (u .runs)

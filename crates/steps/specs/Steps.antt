@@ -4,7 +4,7 @@ use mathlib.Core.Bool.{Bool, true, false}
 use mathlib.Core.List.{List}
 use Prim.Native.Nat.{ℕ}
 use lib.ListN.{drop}
-use Rattle.job.specs.Job.{Job, sections}
+use Rattle.job.specs.Job.{Job}
 use Rattle.job.specs.Format.{jobOf}
 use Rattle.job.specs.Questions.{Accepted}
 use Rattle.recurrence.specs.State.{State}
@@ -15,10 +15,9 @@ use Rattle.rows.specs.declared.found.Scan.{Scan}
 use Rattle.rows.specs.declared.found.Scan.the-variants.{Sound, NotFinite, Parted}
 use Rattle.steps.specs.declared.Ended.{Ended}
 
--- an accepted job of n sections, with a yes to question 20
-pub record Ready (job : List ℕ) (n : ℕ) (rows : Rows) : Type 0 where
+-- an accepted job, with a yes to question 20
+pub record Ready (job : List ℕ) (rows : Rows) : Type 0 where
   pub accepted : Accepted job
-  pub count : n ≡ sections (jobOf job)
   pub enough : enoughLent (jobOf job) rows ≡ true
 
 -- past the entries in use each row is as it was

@@ -1,7 +1,7 @@
 // A run of steps.
 ghost use mathlib.Core.Path.{_≡_};
 ghost use Prim.Native.Nat.{_+_, _≤_};
-ghost use Rattle.march.specs.March.{constantSums};
+ghost use Rattle.ends.specs.Ends.{constantSums};
 ghost use Rattle.recurrence.specs.Slices.{lent, before, after};
 ghost use Rattle.steps.specs.Steps.{Ready, Runs};
 
@@ -15,11 +15,9 @@ pub struct Ended {
     pub found: Scan,
 }
 
-// Does `count` steps after `done`, fewer only where one stops the run; t has T of each node. Two
-// steps a turn, and the last by itself where their number is odd.
+// Does `count` steps after `done`, fewer only where one stops the run; t has T of each node.
 pub fn run(
     job: &[u8],
-    n: usize,
     done: u64,
     count: u64,
     t: &[f64; 32],
@@ -27,48 +25,21 @@ pub fn run(
     flows: &mut [f64],
     highest: &mut [f64],
     lowest: &mut [f64],
-    spare_heads: &mut [f64],
-    spare_flows: &mut [f64],
+    spare: &mut [f64],
 ) -> Ended
-    requires { ⌜ (Ready (now job) n (lent heads flows highest lowest «spare_heads» «spare_flows»))
+    requires { ⌜ (Ready (now job) (lent heads flows highest lowest spare))
         × (done + count ≤ 1000000) × (now t ≡ constantSums (now job)) ⌝ }
-    ensures { λ r. ⌜ Runs (now (job .entry)) done count
-        (before heads flows highest lowest «spare_heads» «spare_flows»)
-        (after heads flows highest lowest «spare_heads» «spare_flows») r ⌝ }
+    ensures { λ r. ⌜ Runs (now (job .entry)) done count (before heads flows highest lowest spare)
+        (after heads flows highest lowest spare) r ⌝ }
 {
     let mut i = 0;
-    while i + 1 < count {
-        let ended = step::two_steps(
-            job,
-            n,
-            done + i,
-            t,
-            heads,
-            flows,
-            highest,
-            lowest,
-            spare_heads,
-            spare_flows,
-        );
+    while i < count {
+        let ended = step::one_step(job, done + i, t, heads, flows, highest, lowest, spare);
         let found = ended.found;
         if step::stops(found) {
             return ended;
         }
-        i += 2;
-    }
-    if i < count {
-        return step::one_step(
-            job,
-            n,
-            done + i,
-            t,
-            heads,
-            flows,
-            highest,
-            lowest,
-            spare_heads,
-            spare_flows,
-        );
+        i += 1;
     }
     let steps = done + i;
     Ended {

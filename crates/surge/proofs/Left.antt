@@ -1,8 +1,8 @@
 -- What a call leaves in the rows, and its answer: refused, begun, or run on. Assumes nothing.
 use mathlib.Core.Path.{_≡_, refl, sym, ap, _∙_}
-use mathlib.Core.Bool.{Bool, true, false}
+use mathlib.Core.Bool.{Bool, true, false, _&&_, and-assoc, and-true}
 use mathlib.Core.List.{List, map}
-use Prim.Native.Nat.{ℕ, _+_, _-_, _≤_}
+use Prim.Native.Nat.{ℕ, _+_, _-_, _*_, _≤_}
 use native.Mathlib.Omega.{arith}
 use lib.Dec.{leb}
 use lib.ListN.{length, take, drop}
@@ -11,7 +11,7 @@ use borrow.Author.Tests.{eq-eqb, ne-eqb, leb-true}
 use Rattle.fields.specs.Real.{zero64}
 use Rattle.loops.specs.Loops.{fill}
 use Rattle.job.specs.Job.{Job, sections, initialAt}
-use Rattle.job.specs.Format.{listed, jobOf}
+use Rattle.job.specs.Format.{listed, jobOf, pipeTable, pipeCount}
 use Rattle.job.specs.Questions.{refusal, Accepted}
 use Rattle.recurrence.specs.State.{Point, State, startPoint, startState}
 use Rattle.recurrence.specs.Scan.{acceptable}
@@ -28,14 +28,19 @@ use Rattle.surge.specs.declared.answer.Answer.the-variants.{Refused, Don
 use Rattle.steps.specs.declared.Ended.{Ended}
 use Rattle.surge.specs.Answers.{paperAnswer, left}
 use Rattle.steps.specs.Steps.{SameRest, resultOf}
-use Rattle.steps.proofs.Taken.{filled-rest}
+use Rattle.steps.proofs.Taken.{four-a-pipe, filled-rest}
 
 -- ---- the questions
 
--- question 20, as the code asks it of the section count
-pub enough-is : (j : Job) (r : Rows) {n : ℕ} {b : Bool} → n ≡ sections j → b ≡ every (λ x. leb n (length (r x))) → b ≡ enoughLent j r
+-- question 20, as the code compares the rows' lengths, of n sections and p pipes
+pub enough-asked : (job : List ℕ) → Accepted job → {n p : ℕ} → n ≡ sections (jobOf job) → p ≡ pipeCount (pipeTable job) → (a b c d e : ℕ)
+    → (((leb n a && leb n b) && leb n c) && leb n d) && leb (p * 4) e ≡ every (λ x. leb (inUse (jobOf job) x) (gathered a b c d e x))
+enough-asked job ok en ep a b c d e = rw (en, ep, sym (four-a-pipe job ok)) (simp (and-assoc, and-true))
+
+-- and of rows
+pub enough-is : (j : Job) (r : Rows) {b : Bool} → b ≡ every (λ x. leb (inUse j x) (length (r x))) → b ≡ enoughLent j r
 unfolding enoughLent
-enough-is j r count e = e ∙ ap (λ (k : ℕ). every (λ x. leb k (length (r x)))) count
+enough-is j r e = e
 
 module _ (job : List ℕ) (r : Rows) where
   abbrev j : Job
@@ -99,7 +104,7 @@ limit-kept m N h = let t = both (leb m 1000000) (leb N (1000000 - m)) h in omega
 
 -- ---- the rows of an unrefused call
 
-module _ (job : List ℕ) (n : ℕ) (r : Rows) (count : n ≡ sections (jobOf job)) where
+module _ (job : List ℕ) (r : Rows) (ok : Accepted job) where
   abbrev accepted : Job
   accepted = jobOf job
 
@@ -107,42 +112,45 @@ module _ (job : List ℕ) (n : ℕ) (r : Rows) (count : n ≡ sections (jobOf jo
   filled-left : (st : State) (x : Row) (g : ℕ → Float) (base : List Float) {l : List Float} {m : ℕ} → m ≡ inUse accepted x → inUse accepted x ≤ length base
       → drop (inUse accepted x) base ≡ drop (inUse accepted x) (r x) → l ≡ fill g base 0 m → listed (inUse accepted x) g ≡ holds accepted st x → l ≡ rowsOf accepted st r x
   filled-left st x g base {l} e long rest filled h =
-      row-left accepted st r x l
-      (ap (take (inUse accepted x)) filled ∙ ap (λ (k : ℕ). take (inUse accepted x) (fill g base 0 k)) e ∙ take-filled (inUse accepted x) g base long ∙ h)
-      (filled-rest g base filled e ∙ rest)
+      let up-to : l ≡ fill g base 0 (inUse accepted x) = filled ∙ ap (fill g base 0) e in
+      row-left accepted st r x l (ap (take (inUse accepted x)) up-to ∙ take-filled (inUse accepted x) g base long ∙ h) (filled-rest g base (inUse accepted x) up-to ∙ rest)
 
-  -- the start: the initial heads and flows, and the spare rows cleared
-  pub begun : (long : Enough accepted r) {heads flows highest lowest a b : List Float}
+  -- the spare cleared over one that past the entries in use is as lent
+  spare-left : (st : State) (base : List Float) {l : List Float} → inUse accepted row.spare ≤ length base
+      → drop (inUse accepted row.spare) base ≡ drop (inUse accepted row.spare) (r row.spare) → l ≡ fill (λ s. zero64) base 0 (pipeCount (pipeTable job) * 4) → l ≡ rowsOf accepted st r row.spare
+  unfolding holds
+  spare-left st base long rest cleared = filled-left st row.spare _ base (sym (four-a-pipe job ok)) long rest cleared (listed-same _ _)
+
+  -- the start: the initial heads and flows, and the spare cleared
+  pub begun : {n : ℕ} → n ≡ sections accepted → (long : Enough accepted r) {heads flows highest lowest spare : List Float}
       → heads ≡ fill (λ s. initialAt accepted s .head) (r row.heads) 0 n → flows ≡ fill (λ s. initialAt accepted s .flow) (r row.flows) 0 n
       → highest ≡ fill (λ s. initialAt accepted s .head) (r row.highest) 0 n → lowest ≡ fill (λ s. initialAt accepted s .head) (r row.lowest) 0 n
-      → a ≡ fill (λ s. zero64) (r row.spareHeads) 0 n → b ≡ fill (λ s. zero64) (r row.spareFlows) 0 n
-      → left (gathered heads flows highest lowest a b) (Done 0) ≡ called job r (ran (started accepted) completed)
+      → spare ≡ fill (λ s. zero64) (r row.spare) 0 (pipeCount (pipeTable job) * 4)
+      → left (gathered heads flows highest lowest spare) (Done 0) ≡ called job r (ran (started accepted) completed)
   unfolding called rowsAfter holds answerOf paperAnswer started startState startPoint
-  begun long {heads} {flows} {highest} {lowest} {a} {b} eh eq eu el ea eb =
+  begun count long {heads} {flows} {highest} {lowest} {spare} eh eq eu el es =
       let st = startState accepted in
       let initial : (f : Point → Float) → listed (sections accepted) (λ s. f (startPoint (initialAt accepted s))) ≡ map f (st .points) = λ f. sym (map-listed f _ _) in
-      let e : (x : Row) → gathered heads flows highest lowest a b x ≡ rowsOf accepted st r x =
+      let e : (x : Row) → gathered heads flows highest lowest spare x ≡ rowsOf accepted st r x =
       each _
       (filled-left st row.heads _ _ count (long row.heads) refl eh (initial (λ p. p .head)))
       (filled-left st row.flows _ _ count (long row.flows) refl eq (initial (λ p. p .flow)))
       (filled-left st row.highest _ _ count (long row.highest) refl eu (initial (λ p. p .highest)))
       (filled-left st row.lowest _ _ count (long row.lowest) refl el (initial (λ p. p .lowest)))
-      (filled-left st row.spareHeads _ _ count (long row.spareHeads) refl ea (listed-same _ _))
-      (filled-left st row.spareFlows _ _ count (long row.spareFlows) refl eb (listed-same _ _)) in
+      (spare-left st _ (long row.spare) refl es) in
       λ i. record { rows = λ x. e x i; answer = record { number = 0; steps = 0; section = 0 } }
 
-  -- the run-on: the rows as the run left them, and the spare rows cleared
+  -- the run-on: the rows as the run left them, and the spare cleared
   module _ (a : Rows) (rest : SameRest accepted r a) (long : Enough accepted a) (x : Result) (ended : Ended) (is : resultOf ended (stateIn accepted a) ≡ x) where
-    pub run-left : (answer : Answer) {c d : List Float} → paperAnswer answer ≡ answerOf (resultOf ended (stateIn accepted a))
-        → c ≡ fill (λ s. zero64) (a row.spareHeads) 0 n → d ≡ fill (λ s. zero64) (a row.spareFlows) 0 n
-        → left (gathered (a row.heads) (a row.flows) (a row.highest) (a row.lowest) c d) answer ≡ called job r x
+    pub run-left : (answer : Answer) {spare : List Float} → paperAnswer answer ≡ answerOf (resultOf ended (stateIn accepted a))
+        → spare ≡ fill (λ s. zero64) (a row.spare) 0 (pipeCount (pipeTable job) * 4)
+        → left (gathered (a row.heads) (a row.flows) (a row.highest) (a row.lowest) spare) answer ≡ called job r x
     unfolding called rowsAfter resultOf holds
-    run-left answer {c} {d} e ec ed =
+    run-left answer {spare} e es =
         let st = stateIn accepted a in
         let kept : (y : Row) → carried y ≡ true → a y ≡ rowsOf accepted st r y =
         λ y k. row-left accepted st r y (a y) (state-held accepted a long y k) (rest y) in
-        let rows : (y : Row) → gathered (a row.heads) (a row.flows) (a row.highest) (a row.lowest) c d y ≡ rowsOf accepted st r y =
+        let rows : (y : Row) → gathered (a row.heads) (a row.flows) (a row.highest) (a row.lowest) spare y ≡ rowsOf accepted st r y =
         each _ (kept row.heads refl) (kept row.flows refl) (kept row.highest refl) (kept row.lowest refl)
-        (filled-left st row.spareHeads _ _ count (long row.spareHeads) (rest row.spareHeads) ec (listed-same _ _))
-        (filled-left st row.spareFlows _ _ count (long row.spareFlows) (rest row.spareFlows) ed (listed-same _ _)) in
+        (spare-left st _ (long row.spare) (rest row.spare) es) in
         rw (← is) (λ i. record { rows = λ y. rows y i; answer = e i })

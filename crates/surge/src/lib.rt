@@ -2,10 +2,12 @@
 ghost use mathlib.Core.Path.{_≡_};
 ghost use Prim.Native.Nat.{_+_, _≤_};
 ghost use lib.Dec.{leb};
+ghost use Rattle.job.specs.Job.{sections};
 ghost use Rattle.job.specs.Format.{jobOf};
+ghost use Rattle.job.specs.Questions.{Accepted};
 ghost use Rattle.recurrence.specs.State.{State};
 ghost use Rattle.recurrence.specs.Run.{answerOf, started, ran, completed, steps, withinLimit};
-ghost use Rattle.recurrence.specs.Calls.{gathered, every, stateIn, called, startCall, runOnCall};
+ghost use Rattle.recurrence.specs.Calls.{gathered, every, inUse, stateIn, called, startCall, runOnCall};
 ghost use Rattle.recurrence.specs.Slices.{lent, before, after};
 ghost use Rattle.surge.specs.Answers.{paperAnswer, left};
 ghost use Rattle.steps.specs.Steps.{Ready, resultOf};
@@ -21,11 +23,13 @@ use steps::Ended;
 // The most steps that a run may come to.
 const LIMIT: u64 = 1000000;
 
-// Question 20, of the section count and the lengths of the rows.
-fn enough(n: usize, a: usize, b: usize, c: usize, d: usize, e: usize, f: usize) -> bool
-    ensures { λ r. ⌜ r ≡ every (λ x. leb n (gathered a b c d e f x)) ⌝ }
+// Question 20 of a job of n sections, of the lengths of the rows.
+fn enough(job: &[u8], n: usize, a: usize, b: usize, c: usize, d: usize, e: usize) -> bool
+    requires { ⌜ (Accepted (now job)) × (n ≡ sections (jobOf (now job))) ⌝ }
+    ensures { λ r. ⌜ r ≡ every (λ x. leb (inUse (jobOf (now (job .entry))) x) (gathered a b c d e x)) ⌝ }
 {
-    (n <= a) & (n <= b) & (n <= c) & (n <= d) & (n <= e) & (n <= f)
+    let m = ends::laid::pipe_count(job) * 4;
+    (n <= a) & (n <= b) & (n <= c) & (n <= d) & (m <= e)
 }
 
 // Question 21.
@@ -59,16 +63,15 @@ fn begin(
     flows: &mut [f64],
     highest: &mut [f64],
     lowest: &mut [f64],
-    spare_heads: &mut [f64],
-    spare_flows: &mut [f64],
+    spare: &mut [f64],
 ) -> Answer
-    requires { ⌜ Ready (now job) n (lent heads flows highest lowest «spare_heads» «spare_flows») ⌝ }
-    ensures { λ r. ⌜ left (after heads flows highest lowest «spare_heads» «spare_flows») r
-        ≡ called (now (job .entry)) (before heads flows highest lowest «spare_heads» «spare_flows»)
+    requires { ⌜ (Ready (now job) (lent heads flows highest lowest spare)) × (n ≡ sections (jobOf (now job))) ⌝ }
+    ensures { λ r. ⌜ left (after heads flows highest lowest spare) r
+        ≡ called (now (job .entry)) (before heads flows highest lowest spare)
         (ran (started (jobOf (now (job .entry)))) completed) ⌝ }
 {
     state::write_start(job, n, heads, flows, highest, lowest);
-    state::clear_spare(n, spare_heads, spare_flows);
+    state::clear_spare(job, spare);
     Answer::Done(0)
 }
 
@@ -79,76 +82,51 @@ pub fn start(
     flows: &mut [f64],
     highest: &mut [f64],
     lowest: &mut [f64],
-    spare_heads: &mut [f64],
-    spare_flows: &mut [f64],
+    spare: &mut [f64],
 ) -> Answer
-    ensures { λ r. ⌜ left (after heads flows highest lowest «spare_heads» «spare_flows») r
-        ≡ startCall (now (job .entry)) (before heads flows highest lowest «spare_heads» «spare_flows») ⌝ }
+    ensures { λ r. ⌜ left (after heads flows highest lowest spare) r
+        ≡ startCall (now (job .entry)) (before heads flows highest lowest spare) ⌝ }
 {
     let read = job::read(job);
     match read {
         Read::Refused(q) => Answer::Refused(q),
         Read::Accepted { sections, steps: _ } => {
             if !enough(
+                job,
                 sections,
                 heads.len(),
                 flows.len(),
                 highest.len(),
                 lowest.len(),
-                spare_heads.len(),
-                spare_flows.len(),
+                spare.len(),
             ) {
                 return Answer::Refused(20);
             }
-            begin(
-                job,
-                sections,
-                heads,
-                flows,
-                highest,
-                lowest,
-                spare_heads,
-                spare_flows,
-            )
+            begin(job, sections, heads, flows, highest, lowest, spare)
         }
     }
 }
 
-// The run-on of an accepted job of n sections, once questions 20 to 22 have a yes.
+// The run-on of an accepted job, once questions 20 to 22 have a yes.
 fn carry_on(
     job: &[u8],
-    n: usize,
     done: u64,
     count: u64,
     heads: &mut [f64],
     flows: &mut [f64],
     highest: &mut [f64],
     lowest: &mut [f64],
-    spare_heads: &mut [f64],
-    spare_flows: &mut [f64],
+    spare: &mut [f64],
 ) -> Answer
-    requires { ⌜ (Ready (now job) n (lent heads flows highest lowest «spare_heads» «spare_flows»))
-        × (done + count ≤ 1000000) ⌝ }
+    requires { ⌜ (Ready (now job) (lent heads flows highest lowest spare)) × (done + count ≤ 1000000) ⌝ }
     ensures { λ r. ⌜ (let j = jobOf (now (job .entry)) in
-        let old = before heads flows highest lowest «spare_heads» «spare_flows» in
-        left (after heads flows highest lowest «spare_heads» «spare_flows») r
+        let old = before heads flows highest lowest spare in
+        left (after heads flows highest lowest spare) r
         ≡ called (now (job .entry)) old (steps j count done (stateIn j old))) ⌝ }
 {
-    let t = march::ends::constant_sums(job);
-    let ended = steps::run(
-        job,
-        n,
-        done,
-        count,
-        &t,
-        heads,
-        flows,
-        highest,
-        lowest,
-        spare_heads,
-        spare_flows,
-    );
-    state::clear_spare(n, spare_heads, spare_flows);
+    let t = ends::sums::constant_sums(job);
+    let ended = steps::run(job, done, count, &t, heads, flows, highest, lowest, spare);
+    state::clear_spare(job, spare);
     answer_of(ended)
 }
 
@@ -161,24 +139,23 @@ pub fn run_on(
     flows: &mut [f64],
     highest: &mut [f64],
     lowest: &mut [f64],
-    spare_heads: &mut [f64],
-    spare_flows: &mut [f64],
+    spare: &mut [f64],
 ) -> Answer
-    ensures { λ r. ⌜ left (after heads flows highest lowest «spare_heads» «spare_flows») r
-        ≡ runOnCall (now (job .entry)) done count (before heads flows highest lowest «spare_heads» «spare_flows») ⌝ }
+    ensures { λ r. ⌜ left (after heads flows highest lowest spare) r
+        ≡ runOnCall (now (job .entry)) done count (before heads flows highest lowest spare) ⌝ }
 {
     let read = job::read(job);
     match read {
         Read::Refused(question) => Answer::Refused(question),
         Read::Accepted { sections, steps: _ } => {
             if !enough(
+                job,
                 sections,
                 heads.len(),
                 flows.len(),
                 highest.len(),
                 lowest.len(),
-                spare_heads.len(),
-                spare_flows.len(),
+                spare.len(),
             ) {
                 return Answer::Refused(20);
             }
@@ -190,18 +167,7 @@ pub fn run_on(
             if !held {
                 return Answer::Refused(22);
             }
-            carry_on(
-                job,
-                sections,
-                done,
-                count,
-                heads,
-                flows,
-                highest,
-                lowest,
-                spare_heads,
-                spare_flows,
-            )
+            carry_on(job, done, count, heads, flows, highest, lowest, spare)
         }
     }
 }

@@ -8,7 +8,7 @@ ghost use lib.Ieee.{Float};
 ghost use Rattle.fields.specs.Real.{zero64};
 ghost use Rattle.loops.specs.Loops.{fill};
 ghost use Rattle.job.specs.Job.{sections, initialAt};
-ghost use Rattle.job.specs.Format.{jobOf, initialOf};
+ghost use Rattle.job.specs.Format.{jobOf, pipeTable, pipeCount, initialOf};
 ghost use Rattle.job.specs.Questions.{Accepted, initialFits};
 ghost use Rattle.recurrence.specs.Scan.{acceptable};
 ghost use Rattle.recurrence.specs.Calls.{stateIn, gathered};
@@ -67,17 +67,16 @@ pub fn write_start(
     write_initial(initial, n, heads, flows, highest, lowest);
 }
 
-// Both spare rows +0 up to the section count.
-pub fn clear_spare(n: usize, spare_heads: &mut [f64], spare_flows: &mut [f64])
-    requires { ⌜ (n ≤ length (now «spare_heads»)) × (n ≤ length (now «spare_flows»)) ⌝ }
-    ensures { λ _. ⌜ (now («spare_heads» .exit) ≡ fill (λ (s : ℕ). zero64) (now («spare_heads» .entry)) 0 n)
-        × (now («spare_flows» .exit) ≡ fill (λ (s : ℕ). zero64) (now («spare_flows» .entry)) 0 n) ⌝ }
+// The spare +0 in four entries a pipe.
+pub fn clear_spare(job: &[u8], spare: &mut [f64])
+    requires { ⌜ (Accepted (now job)) × (pipeCount (pipeTable (now job)) * 4 ≤ length (now spare)) ⌝ }
+    ensures { λ _. ⌜ now (spare .exit)
+        ≡ fill (λ (s : ℕ). zero64) (now (spare .entry)) 0 (pipeCount (pipeTable (now (job .entry))) * 4) ⌝ }
 {
-    rows::clear_row(n, spare_heads);
-    rows::clear_row(n, spare_flows);
+    rows::clear_row(ends::laid::pipe_count(job) * 4, spare);
 }
 
-// Question 22; a and b stand for the spare rows, which it does not ask about.
+// Question 22; e stands for the spare, which it does not ask about.
 pub fn acceptable(
     job: &[u8],
     n: usize,
@@ -89,9 +88,9 @@ pub fn acceptable(
     requires { ⌜ (Accepted (now job)) × (n ≡ sections (jobOf (now job))) ⌝ }
     requires { ⌜ (n ≤ length (now heads)) × (n ≤ length (now flows))
         × (n ≤ length (now highest)) × (n ≤ length (now lowest)) ⌝ }
-    ensures { λ r. ⌜ ((a b : List Float) → let j = jobOf (now (job .entry)) in
+    ensures { λ r. ⌜ ((e : List Float) → let j = jobOf (now (job .entry)) in
         r ≡ acceptable j (stateIn j (gathered (now (heads .entry)) (now (flows .entry))
-        (now (highest .entry)) (now (lowest .entry)) a b))) ⌝ }
+        (now (highest .entry)) (now (lowest .entry)) e))) ⌝ }
 {
     let initial = job::pairs::table(job, 3);
     rows::acceptable(initial, n, heads, flows, highest, lowest)

@@ -89,16 +89,14 @@ fn list(job: &[u8], count: usize, steps: usize)
     let mut flows = [0.0f64; 512];
     let mut highest = [0.0f64; 512];
     let mut lowest = [0.0f64; 512];
-    let mut spare_heads = [0.0f64; 512];
-    let mut spare_flows = [0.0f64; 512];
+    let mut spare = [0.0f64; 128];
     surge::start(
         job,
         &mut heads,
         &mut flows,
         &mut highest,
         &mut lowest,
-        &mut spare_heads,
-        &mut spare_flows,
+        &mut spare,
     );
     let answer = surge::run_on(
         job,
@@ -108,8 +106,7 @@ fn list(job: &[u8], count: usize, steps: usize)
         &mut flows,
         &mut highest,
         &mut lowest,
-        &mut spare_heads,
-        &mut spare_flows,
+        &mut spare,
     );
     let end = end_of(answer, count);
     print_listing(

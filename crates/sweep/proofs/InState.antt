@@ -10,7 +10,7 @@ use Rattle.job.specs.Job.{Laid}
 use Rattle.job.specs.Format.{rIn}
 use Rattle.recurrence.specs.State.{State, pointAt}
 use Rattle.recurrence.specs.Step.{Inputs, along, cpAfter, cmBefore, between}
-use Rattle.sweep.specs.Sweep.{innerAt}
+use Rattle.sweep.specs.Sweep.{byCp, innerAt}
 
 pub inner-is :
     (f : Inputs) (st : State) (l : Laid) (friction : List ℕ) (heads flows : List Float) (n : ℕ)
@@ -18,7 +18,7 @@ pub inner-is :
     → ((i : ℕ) → i ≤ n → getD heads i zero64 ≡ pointAt st (l .first + i) .head)
     → ((i : ℕ) → i ≤ n → getD flows i zero64 ≡ pointAt st (l .first + i) .flow)
     → (i : ℕ) → suc i < n → innerAt friction (l .pipe .S) heads flows i ≡ between f st l i
-unfolding innerAt between cpAfter cmBefore along
+unfolding innerAt byCp between cpAfter cmBefore along
 inner-is f st l friction heads flows n r h q i b =
     rw (
       r i (omega arith),

@@ -12,6 +12,10 @@ use Rattle.loops.specs.Loops.{allBelow}
 use Rattle.loops.proofs.All.{all-of}
 use Rattle.fields.specs.Bytes.{u64At, f64At}
 use Rattle.job.specs.Format.{rIn}
+use Rattle.job.specs.Questions.{initialFits}
+use Rattle.rows.specs.Faults.{floorIn}
+use Rattle.rows.proofs.Sound.{floor-finite}
+use Rattle.sweep.specs.Sweep.{Floored}
 
 module _ {A : Type 0} (l : List A) (a k : ℕ) where
   pub part-length : a + k ≤ length l → length (take k (drop a l)) ≡ k
@@ -52,3 +56,19 @@ pub r-part-finite :
     (friction : List ℕ) (a k r n : ℕ) → a ≡ r * 8 → n * 8 ≤ k → ((i : ℕ) → i < n → finite (rIn friction (r + i)) ≡ true)
     → allBelow (λ i. finite (rIn (take k (drop a friction)) i)) n ≡ true
 r-part-finite friction a k r n e h fits = all-of (λ i. finite (rIn (take k (drop a friction)) i)) n (λ i l. rw (r-part friction a k r i e (omega arith)) (fits i l))
+
+-- the floor of section i of a part of table 4 that begins with section s
+pub floor-part : (initial : List ℕ) (a k s i : ℕ) → a ≡ s * 24 → i * 24 + 24 ≤ k → floorIn (take k (drop a initial)) i ≡ floorIn initial (s + i)
+floor-part initial a k s i e h =
+    f64-part initial a k (i * 24 + 16) (omega arith) ∙ ap (f64At initial) (let p : a + (i * 24 + 16) ≡ (s + i) * 24 + 16 = omega arith in p)
+
+-- such a part of n sections, where question 14 has a yes
+pub floored-part :
+    (initial : List ℕ) (a k s n : ℕ) → a ≡ s * 24 → n * 24 ≤ k → a + k ≤ length initial → initialFits initial ≡ true → Floored (take k (drop a initial)) n
+floored-part initial a k s n e h b fits =
+    record {
+      floors-long = omega (arith, part-length initial a k b);
+      floors-finite =
+          all-of (λ i. finite (floorIn (take k (drop a initial)) i)) n
+          (λ i l. rw (floor-part initial a k s i e (omega arith)) (floor-finite initial (s + i) (omega arith) fits));
+    }

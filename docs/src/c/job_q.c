@@ -4,7 +4,8 @@
 #include <stdio.h>
 #include <string.h>
 
-enum { SECTIONS = 3, JOB = 46 + 12 + 2 * 26 + 2 * 8 + SECTIONS * 24 + 2 * 8 };
+enum { SECTIONS = 3, PIPES = 1, SPARE = 4 * PIPES };
+enum { JOB = 46 + PIPES * 12 + 2 * 26 + 2 * 8 + SECTIONS * 24 + 2 * 8 };
 
 static uint8_t job[JOB];
 static size_t used;
@@ -32,7 +33,7 @@ static void put_node(int kind, double a, double b) {
 /* One pipe of two reaches, S = 1, R = 0; node 0 a reservoir at 10; node 1 a valve, a = 2, b = 6, shut.
  * Heads 10, flows 4, floors 0. */
 static void put_job_q(void) {
-    static const uint32_t lengths[5] = {12, 2 * 26, 2 * 8, SECTIONS * 24, 2 * 8};
+    static const uint32_t lengths[5] = {PIPES * 12, 2 * 26, 2 * 8, SECTIONS * 24, 2 * 8};
     uint32_t offset = 46;
     put(5, 2); /* pairs */
     put(1, 4); /* steps for the listing */
@@ -59,13 +60,13 @@ static void put_job_q(void) {
 }
 
 int main(void) {
-    double h[SECTIONS], q[SECTIONS], high[SECTIONS], low[SECTIONS], spare_h[SECTIONS], spare_q[SECTIONS];
+    double h[SECTIONS], q[SECTIONS], high[SECTIONS], low[SECTIONS], spare[SPARE];
     put_job_q();
     uint64_t answer = vintuqay_read(job, used);
     printf("read: number %u, %u sections, %u steps\n", vintuqay_number(answer),
            vintuqay_section(answer), (unsigned)vintuqay_steps(answer));
     answer = vintuqay_start(job, used, h, SECTIONS, q, SECTIONS, high, SECTIONS, low, SECTIONS,
-                            spare_h, SECTIONS, spare_q, SECTIONS);
+                            spare, SPARE);
     while (vintuqay_number(answer) == 0) {
         printf("step %u: heads", (unsigned)vintuqay_steps(answer));
         for (int section = 0; section < SECTIONS; section++)
@@ -77,7 +78,7 @@ int main(void) {
         if (vintuqay_steps(answer) == 5)
             break;
         answer = vintuqay_run_on(job, used, vintuqay_steps(answer), 1, h, SECTIONS, q, SECTIONS,
-                                 high, SECTIONS, low, SECTIONS, spare_h, SECTIONS, spare_q, SECTIONS);
+                                 high, SECTIONS, low, SECTIONS, spare, SPARE);
     }
     for (size_t section = 0; section < SECTIONS; section++) {
         uint8_t line[72];
@@ -86,8 +87,11 @@ int main(void) {
         fwrite(line, 1, length, stdout);
     }
     answer = vintuqay_run_on(job, used, 5, 1, h, SECTIONS, q, SECTIONS - 1, high, SECTIONS, low,
-                             SECTIONS, spare_h, SECTIONS, spare_q, SECTIONS);
-    printf("a row too short: number %u\n", vintuqay_number(answer));
+                             SECTIONS, spare, SPARE);
+    printf("flows too short: number %u\n", vintuqay_number(answer));
+    answer = vintuqay_run_on(job, used, 5, 1, h, SECTIONS, q, SECTIONS, high, SECTIONS, low, SECTIONS,
+                             spare, SPARE - 1);
+    printf("a spare of %d: number %u\n", SPARE - 1, vintuqay_number(answer));
     printf("roots: %g %a\n", vintuqay_root(144), vintuqay_root(2));
     return 0;
 }

@@ -35,9 +35,10 @@ double vintuqay_root(double x);
  */
 uint64_t vintuqay_read(const uint8_t *job, size_t job_length);
 
-/* The start: questions 1 to 15, then 20 (does each lent slice hold the section count?). Writes the
- * initial heads and flows, and both envelopes as the initial heads; both spare rows are +0 up to the
- * section count. Entries past the section count are untouched.
+/* The start: questions 1 to 15, then 20 (do heads, flows, highest and lowest hold the section count,
+ * and does spare hold four values per pipe?). Writes the initial heads and flows, and both envelopes as
+ * the initial heads, up to the section count, and +0 in the first four values per pipe of spare.
+ * Entries past these are untouched. What spare holds before a call has no effect.
  */
 uint64_t vintuqay_start(
     const uint8_t *job, size_t job_length,
@@ -45,15 +46,15 @@ uint64_t vintuqay_start(
     double *flows, size_t flows_length,
     double *highest, size_t highest_length,
     double *lowest, size_t lowest_length,
-    double *spare_heads, size_t spare_heads_length,
-    double *spare_flows, size_t spare_flows_length);
+    double *spare, size_t spare_length);
 
 /* The run-on: takes the number `done` of steps done (m) and a count (N), and does that many steps,
- * fewer only where one stops the run. Questions 1 to 15, then 20, 21 (is m at most 1,000,000 and N at
- * most 1,000,000 - m?) and 22 (are heads, flows and envelopes finite up to the section count, no head
- * below its floor?). A stopped step changes no state or envelope. A finished step raises the maximum
- * where the head is greater and lowers the minimum where it is less. After an unrefused call both
- * spare rows are +0 up to the section count; entries past it are untouched.
+ * fewer only where one stops the run. Questions 1 to 15, then 20 as for the start, 21 (is m at most
+ * 1,000,000 and N at most 1,000,000 - m?) and 22 (are heads, flows and envelopes finite up to the
+ * section count, no head below its floor?). A stopped step changes no state or envelope. A finished
+ * step raises the maximum where the head is greater and lowers the minimum where it is less. After an
+ * unrefused call, one that stopped or had no steps to do included, the first four values per pipe of
+ * spare are +0. Entries past these, and past the section count in the other slices, are untouched.
  */
 uint64_t vintuqay_run_on(
     const uint8_t *job, size_t job_length, uint64_t done, uint64_t count,
@@ -61,8 +62,7 @@ uint64_t vintuqay_run_on(
     double *flows, size_t flows_length,
     double *highest, size_t highest_length,
     double *lowest, size_t lowest_length,
-    double *spare_heads, size_t spare_heads_length,
-    double *spare_flows, size_t spare_flows_length);
+    double *spare, size_t spare_length);
 
 /* The line of a section, at the front of `out`: number in decimal, head, flow, maximum, minimum, each
  * as 16 lower-case hexadecimal digits, highest first, one space between two fields, and a newline.

@@ -8,7 +8,7 @@ use Rattle.c_interface.proofs.vintuqay_run_on.Tie as tie
 
 returns : tie.Need-returns
 returns c =
-    let left = c .before .before .before .before .before .before .before .before .before .before .before .before .before .run-on .ensures in
+    let left = c .before .before .before .before .before .before .before .before .before .before .before .run-on .ensures in
     (c .pack-answer .ensures ∙ ap (λ (x : Called). packedAnswer (x .answer)) left, ap (λ (x : Called). x .rows) left)
 
 pub vintuqay-run-on-spec : {M : Type 1} → statement M
@@ -17,7 +17,6 @@ vintuqay-run-on-spec =
     (tie.spec
     (λ c κs. search needs)
     (λ c κs. search needs)
-    (λ c. search needs)
     (λ c. search needs)
     (λ c. search needs)
     (λ c. search needs)

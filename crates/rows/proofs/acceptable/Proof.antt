@@ -1,40 +1,50 @@
--- `rows::acceptable` meets its contract: the sections before this one are acceptable. Assumes nothing.
+-- `rows::acceptable` meets its contract: a turn adds 1 for a section that is not acceptable. Assumes nothing.
 use mathlib.Core.Path.{_≡_}
+use mathlib.Core.Bool.{cond}
 use Prim.Native.Nat.{_-_}
 use native.Mathlib.Omega.{arith}
 use denote.Ref.{now}
 use borrow.Author.Needs.{needs}
-use borrow.Author.Tests.{not-true, not-false}
-use Rattle.loops.proofs.All.{Passing, passing-none, passing-step, passing-stop, passing-done}
+use Rattle.loops.proofs.Counting.{Counting, counting-none, counting-more, counting-done}
 use Rattle.rows.specs.Faults.{acceptableIn}
-use Rattle.rows.proofs.Sound.{acceptable-read}
+use Rattle.rows.proofs.Sound.{floor-finite, acceptable-read}
 use Rattle.rows.proofs.acceptable.Statement.{statement}
 use Rattle.rows.proofs.acceptable.Tie as tie
 
 abbrev Inv-loop : tie.InvT-loop
-Inv-loop initial n heads flows highest lowest s₀ s = Passing (acceptableIn initial heads flows highest lowest) n s
+Inv-loop initial n heads flows highest lowest bad₀ s₀ bad s = Counting (acceptableIn initial heads flows highest lowest) n s bad
 
 abbrev μ-loop : tie.MeasureT-loop
-μ-loop initial n heads flows highest lowest s₀ s = n - s
+μ-loop initial n heads flows highest lowest bad₀ s₀ bad s = n - s
 
--- what is asked at this section
-asked :
-    (c : tie.After-acceptable-at Inv-loop μ-loop)
-    → let here = c .before .before .before .before .before .before .before in
-    let a = here .before .before .before .before .before .before .args in
-    c .acceptable-at .result ≡ acceptableIn (now (a .initial)) (now (a .heads)) (now (a .flows)) (now (a .highest)) (now (a .lowest)) (here .loop .s)
-asked c =
-    let here = c .before .before .before .before .before .before .before in
-    let a = here .before .before .before .before .before .before .args in
+-- the floor of this section is finite, since question 14 has a yes
+floor-at-requires : tie.Need-floor-at-requires Inv-loop μ-loop
+floor-at-requires c κs =
+    let turn : tie.In-loop Inv-loop μ-loop = c .before .before .before .before in
+    let here : tie.At-loop Inv-loop μ-loop = turn .before in
+    let start : tie.Start Inv-loop μ-loop = here .before .before .before .before .before .before in
+    (search needs, floor-finite (now (start .args .initial)) (here .loop .s) (omega arith) (start .pre .0 .table-fits))
+
+-- what a turn adds is told by question 22 at this section
+adds :
+    (c : tie.After-unacceptable Inv-loop μ-loop)
+    → let turn : tie.In-loop Inv-loop μ-loop = c .before .before .before .before .before .before in
+    let here : tie.At-loop Inv-loop μ-loop = turn .before in
+    let start : tie.Start Inv-loop μ-loop = here .before .before .before .before .before .before in
+    let a = start .args in
+    c .unacceptable .result ≡ cond (acceptableIn (now (a .initial)) (now (a .heads)) (now (a .flows)) (now (a .highest)) (now (a .lowest)) (here .loop .s)) 0 1
+adds c =
+    let turn : tie.In-loop Inv-loop μ-loop = c .before .before .before .before .before .before in
+    let here : tie.At-loop Inv-loop μ-loop = turn .before in
+    let start : tie.Start Inv-loop μ-loop = here .before .before .before .before .before .before in
+    let a = start .args in
     acceptable-read (now (a .initial)) (now (a .heads)) (now (a .flows)) (now (a .highest)) (now (a .lowest)) (here .loop .s)
-    (omega arith) (omega arith) (omega arith) (omega arith) (c .before .floor-at .ensures) (c .acceptable-at .ensures)
-
-returns : tie.Need-returns Inv-loop μ-loop
-returns c = passing-stop _ (omega arith) (asked (c .before)) (not-true _ (c .if1 .taken))
+    (omega arith) (omega arith) (omega arith) (omega arith) (c .before .floor-at .ensures) (c .unacceptable .ensures .1)
 
 loop-again : tie.Need-loop-again Inv-loop μ-loop
 loop-again c =
-    passing-step _ (c .before .before .before .before .before .before .before .before .loop .inv) (omega arith) (asked (c .before)) (not-false _ (c .if1 .left))
+    let turn : tie.In-loop Inv-loop μ-loop = c .before .before .before .before .before .before in
+    counting-more _ (turn .before .loop .inv) (omega arith) (adds c)
 
 pub acceptable-spec : {M : Type 1} → statement M
 acceptable-spec =
@@ -42,7 +52,7 @@ acceptable-spec =
     (tie.spec
     Inv-loop
     μ-loop
-    (λ c. passing-none _)
+    (λ c. counting-none _)
     (λ c. search needs)
     (λ c. search needs)
     (λ c. search needs)
@@ -51,10 +61,10 @@ acceptable-spec =
     (λ c. search needs)
     (λ c. search needs)
     (λ c. search needs)
+    floor-at-requires
     (λ c κs. search needs)
-    (λ c κs. search needs)
-    returns
+    (λ c. search needs)
     (λ c. search needs)
     (λ c. search needs)
     loop-again
-    (λ c. passing-done _ (c .before .loop .inv) (c .loop-test .left)))
+    (λ c. counting-done _ (c .before .loop .inv) (c .loop-test .left)))

@@ -1,42 +1,67 @@
 //! A call of both implementations on the same rows, compared in every bit.
 
+use crate::cases::{self, Call};
 use crate::ours::{self, Answer};
 use crate::tally::Tally;
+use reference::generate::Random;
 use reference::reader;
 use reference::refusal::Refused;
-use reference::rows::{RowStore, Rows, ROWS};
+use reference::rows::{Lengths, RowStore, Rows, SPARE};
 use reference::run::{self, Cause, Ran};
 
-/// Six rows of which only the first entries are lent; the rest shows a store past what is lent.
+/// Entries that the rows have past those lent.
+const MORE: usize = 6;
+
+/// Rows of which only the first entries are lent; the rest shows a store past what is lent.
 #[derive(Clone)]
 pub struct Lent {
     pub store: RowStore,
-    pub lengths: [usize; ROWS],
+    pub lengths: Lengths,
 }
 
 impl Lent {
-    /// `length` entries of each row lent out of some more, each a NaN of its own payload.
-    pub fn marked(length: usize) -> Lent {
-        Lent { store: RowStore::marked(length + 3), lengths: [length; ROWS] }
+    /// So many entries of each row lent out of some more, each a NaN of its own payload.
+    pub fn marked(lengths: Lengths) -> Lent {
+        Lent { store: RowStore::marked(lengths.map(|length| length + MORE)), lengths }
+    }
+
+    /// The same with up to three entries more lent of each row.
+    pub fn marked_and_longer(random: &mut Random, lengths: Lengths) -> Lent {
+        let mut lent = Lent::marked(lengths);
+        lent.lengths = lengths.map(|length| length + random.below(4));
+        lent
+    }
+
+    /// Another content of the entries of the spare that are in use, which must have no effect: NaNs
+    /// of their own payloads, one number all through, or what the last call left.
+    pub fn fill_spare(&mut self, random: &mut Random, needed: Lengths) {
+        let in_use = needed[SPARE];
+        match random.below(3) {
+            0 => self.store.mark_spare(in_use),
+            1 => {
+                let fill = random.pick(&[-0.0, 1.0, -7.5, 1e300, f64::INFINITY, f64::MAX, -1e-310]);
+                self.store.rows[SPARE][..in_use].fill(fill);
+            }
+            _ => {}
+        }
     }
 
     fn rows(&mut self) -> Rows<'_> {
         let lengths = self.lengths;
-        let [heads, flows, highest, lowest, spare_heads, spare_flows] = &mut self.store.rows;
+        let [heads, flows, highest, lowest, spare] = &mut self.store.rows;
         Rows {
             heads: &mut heads[..lengths[0]],
             flows: &mut flows[..lengths[1]],
             highest: &mut highest[..lengths[2]],
             lowest: &mut lowest[..lengths[3]],
-            spare_heads: &mut spare_heads[..lengths[4]],
-            spare_flows: &mut spare_flows[..lengths[5]],
+            spare: &mut spare[..lengths[SPARE]],
         }
     }
 }
 
-/// Calls both and compares: answers, and all six rows whole.
+/// Calls both and compares: answers, and all rows whole.
 pub fn start(tally: &mut Tally, job: &[u8], lent: &mut Lent) -> Answer {
-    let mut other = lent.clone();
+    let (before, mut other) = (lent.clone(), lent.clone());
     let expected = match run::start(job, other.rows()) {
         Ok(_) => Answer { number: 0, section: 0, steps: 0 },
         Err(refused) => refusal(refused),
@@ -44,16 +69,18 @@ pub fn start(tally: &mut Tally, job: &[u8], lent: &mut Lent) -> Answer {
     let answer = ours::start(job, &mut lent.store, lent.lengths);
     same("start", job, answer, expected, lent, &other);
     tally.count("starts", 1);
+    cases::count(tally, job, Call::Start, &before, answer);
     tally.answer(answer)
 }
 
-/// Calls both and compares: answers, and all six rows whole.
+/// Calls both and compares: answers, and all rows whole.
 pub fn run_on(tally: &mut Tally, job: &[u8], done: u64, count: u64, lent: &mut Lent) -> Answer {
-    let mut other = lent.clone();
+    let (before, mut other) = (lent.clone(), lent.clone());
     let expected = ran(run::run_on(job, done, count, other.rows()));
     let answer = ours::run_on(job, done, count, &mut lent.store, lent.lengths);
     same("run-on", job, answer, expected, lent, &other);
     tally.count("run-ons", 1);
+    cases::count(tally, job, Call::RunOn(count), &before, answer);
     tally.answer(answer)
 }
 

@@ -1,10 +1,12 @@
 //! The proved calculator, called through its C interface, against the reference implementation.
 //!
 //! - [`ours`]: the C interface; [`both`]: a call of both, compared in every bit.
-//! - [`parts`]: what is compared; [`tally`]: how many of each, and which numbers were reached.
+//! - [`parts`]: what is compared; [`tally`]: how many of each, and which numbers were reached;
+//!   [`cases`]: which cases of the lent slices were.
 //! - [`distance`]: how far each section is from a node, for demand 3.
 
 pub mod both;
+pub mod cases;
 pub mod distance;
 pub mod ours;
 pub mod parts;

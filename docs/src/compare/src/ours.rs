@@ -1,6 +1,6 @@
 //! The calls of the proved calculator through its C interface.
 
-use reference::rows::{RowStore, ROWS};
+use reference::rows::{Lengths, RowStore, ROWS};
 
 extern "C" {
     fn vintuqay_root(x: f64) -> f64;
@@ -16,10 +16,8 @@ extern "C" {
         highest_length: usize,
         lowest: *mut f64,
         lowest_length: usize,
-        spare_heads: *mut f64,
-        spare_heads_length: usize,
-        spare_flows: *mut f64,
-        spare_flows_length: usize,
+        spare: *mut f64,
+        spare_length: usize,
     ) -> u64;
     fn vintuqay_run_on(
         job: *const u8,
@@ -34,10 +32,8 @@ extern "C" {
         highest_length: usize,
         lowest: *mut f64,
         lowest_length: usize,
-        spare_heads: *mut f64,
-        spare_heads_length: usize,
-        spare_flows: *mut f64,
-        spare_flows_length: usize,
+        spare: *mut f64,
+        spare_length: usize,
     ) -> u64;
     fn vintuqay_line(
         section: usize,
@@ -75,29 +71,21 @@ pub fn read(job: &[u8]) -> Answer {
 }
 
 /// The start, lent the first `lengths` entries of the rows.
-pub fn start(job: &[u8], rows: &mut RowStore, lengths: [usize; ROWS]) -> Answer {
-    let [a, b, c, d, e, f] = pointers(rows, lengths);
-    let [la, lb, lc, ld, le, lf] = lengths;
-    let packed = unsafe {
-        vintuqay_start(job.as_ptr(), job.len(), a, la, b, lb, c, lc, d, ld, e, le, f, lf)
-    };
+pub fn start(job: &[u8], rows: &mut RowStore, lengths: Lengths) -> Answer {
+    let [a, b, c, d, e] = pointers(rows, lengths);
+    let [la, lb, lc, ld, le] = lengths;
+    let packed =
+        unsafe { vintuqay_start(job.as_ptr(), job.len(), a, la, b, lb, c, lc, d, ld, e, le) };
     Answer::unpacked(packed)
 }
 
 /// The run-on, lent the first `lengths` entries of the rows.
-pub fn run_on(
-    job: &[u8],
-    done: u64,
-    count: u64,
-    rows: &mut RowStore,
-    lengths: [usize; ROWS],
-) -> Answer {
-    let [a, b, c, d, e, f] = pointers(rows, lengths);
-    let [la, lb, lc, ld, le, lf] = lengths;
+pub fn run_on(job: &[u8], done: u64, count: u64, rows: &mut RowStore, lengths: Lengths) -> Answer {
+    let [a, b, c, d, e] = pointers(rows, lengths);
+    let [la, lb, lc, ld, le] = lengths;
     let (bytes, size) = (job.as_ptr(), job.len());
-    let packed = unsafe {
-        vintuqay_run_on(bytes, size, done, count, a, la, b, lb, c, lc, d, ld, e, le, f, lf)
-    };
+    let packed =
+        unsafe { vintuqay_run_on(bytes, size, done, count, a, la, b, lb, c, lc, d, ld, e, le) };
     Answer::unpacked(packed)
 }
 
@@ -107,7 +95,7 @@ pub fn line(section: usize, values: [f64; 4], out: &mut [u8]) -> usize {
     unsafe { vintuqay_line(section, head, flow, highest, lowest, out.as_mut_ptr(), out.len()) }
 }
 
-fn pointers(rows: &mut RowStore, lengths: [usize; ROWS]) -> [*mut f64; ROWS] {
+fn pointers(rows: &mut RowStore, lengths: Lengths) -> [*mut f64; ROWS] {
     for (row, length) in rows.rows.iter().zip(lengths) {
         assert!(length <= row.len(), "more is lent than there is");
     }

@@ -1,5 +1,7 @@
 //! What is compared, each part with a seed of its own.
 
+use crate::cases;
+
 mod calls;
 mod edits;
 mod jobs;
@@ -13,3 +15,10 @@ pub use jobs::{damaged_jobs, sound_and_odd_jobs};
 pub use lines::{lines, listings};
 pub use lists::lists;
 pub use roots::roots;
+
+/// What must be counted at least once for the comparison to pass.
+pub fn to_be_reached() -> Vec<&'static str> {
+    let mut cases = cases::all();
+    cases.extend([lists::SPARE_TOO_SHORT, edits::SHARP]);
+    cases
+}

@@ -51,6 +51,11 @@ impl Tally {
         }
     }
 
+    /// Which of these were never counted.
+    pub fn not_counted(&self, cases: &[&'static str]) -> Vec<&'static str> {
+        cases.iter().copied().filter(|case| self.counted(case) == 0).collect()
+    }
+
     /// The numbers of document 01 that were not reached.
     pub fn missing(&self) -> Vec<u64> {
         NUMBERS.iter().copied().filter(|number| !self.numbers.contains_key(number)).collect()

@@ -2,6 +2,7 @@
 //! here, so that jobs to be refused can be written too.
 
 use crate::job::{Job, Kind};
+use crate::rows::{needed, Lengths};
 
 #[derive(Clone, Debug, Default, PartialEq)]
 pub struct Draft {
@@ -72,6 +73,11 @@ impl Draft {
     /// Sections that the pipes have in all.
     pub fn section_count(&self) -> usize {
         self.pipes.iter().map(|pipe| usize::from(pipe.reaches) + 1).sum()
+    }
+
+    /// What question 20 asks each slice lent with the job to hold.
+    pub fn needed(&self) -> Lengths {
+        needed(self.section_count(), self.pipes.len())
     }
 
     /// How many bytes the job has.

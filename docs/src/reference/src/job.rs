@@ -1,5 +1,7 @@
 //! What an accepted job says, with the bytes behind it.
 
+use crate::rows::{needed, Lengths};
+
 /// A pipe runs from its start node to its finish node.
 #[derive(Clone, Debug, PartialEq)]
 pub struct Pipe {
@@ -72,5 +74,10 @@ pub struct Job {
 impl Job {
     pub fn sections(&self) -> usize {
         self.initial.len()
+    }
+
+    /// What question 20 asks each lent slice to hold.
+    pub fn needed(&self) -> Lengths {
+        needed(self.sections(), self.pipes.len())
     }
 }

@@ -87,7 +87,7 @@ fn thousandths(figure: &str) -> i64 {
 /// The heads at the start and after each step.
 fn heads_by_step() -> Vec<Vec<f64>> {
     let job = draft().bytes();
-    let mut store = RowStore::zeros(usize::from(REACHES) + 1);
+    let mut store = RowStore::zeros(draft().needed());
     start(&job, store.lend()).expect("the sample job is accepted");
     let mut heads = vec![store.heads().to_vec()];
     for done in 0..u64::from(STEPS) {

@@ -3,7 +3,7 @@
 //!
 //! - [`reader`]: questions 1 to 15; [`job`]: what an accepted job says.
 //! - [`root`], [`wave`], [`node`]: the equations, rounded once an operation in the written order.
-//! - [`run`]: start and run-on over six lent rows; [`listing`]: the lines of the program.
+//! - [`run`]: start and run-on over five lent slices ([`rows`]); [`listing`]: the lines of the program.
 //! - [`baseline`]: the same run-on written for speed.
 //! - [`draft`], [`generate`]: jobs built by a program, sound, odd and damaged ones at random.
 //! - [`text`], [`decimals`], [`refusal`]: jobs and listings that people can read.

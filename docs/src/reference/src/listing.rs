@@ -2,7 +2,7 @@
 
 use crate::reader::{read, MOST_SECTIONS};
 use crate::refusal::{ask, Refused};
-use crate::rows::RowStore;
+use crate::rows::{RowStore, LONGEST};
 use crate::run::{run_on, start, Cause, Ran};
 use crate::wave::Point;
 
@@ -58,7 +58,7 @@ pub fn listing(job: &[u8]) -> String {
 
 fn run_listing(job: &[u8]) -> Result<String, Refused> {
     let steps = u64::from(read(job)?.steps);
-    let mut store = RowStore::zeros(MOST_SECTIONS);
+    let mut store = RowStore::zeros(LONGEST);
     let sections = start(job, store.lend())?;
     let ran = run_on(job, 0, steps, store.lend())?;
     let mut text = String::new();

@@ -10,6 +10,7 @@ pub const FIRST_TABLE: usize = 46;
 pub const MOST_BYTES: usize = 32_768;
 pub const MOST_STEPS: u64 = 1_000_000;
 pub const MOST_SECTIONS: usize = 512;
+pub const MOST_PIPES: usize = 32;
 
 /// Asks questions 1 to 15 and hands back what the job says.
 pub fn read(bytes: &[u8]) -> Result<Job, Refused> {
@@ -19,7 +20,7 @@ pub fn read(bytes: &[u8]) -> Result<Job, Refused> {
     let steps = u32_at(bytes, 2);
     ask(4, u64::from(steps) <= MOST_STEPS)?;
     let [pipe_table, node_table, friction_table, section_table, schedule_table] = tables(bytes);
-    ask(5, whole_records(pipe_table, 12, 1, 32))?;
+    ask(5, whole_records(pipe_table, 12, 1, MOST_PIPES))?;
     ask(6, whole_records(node_table, 26, 2, 32))?;
     let pipes = read_pipes(pipe_table);
     let nodes: Vec<NodeRecord> = node_table.chunks_exact(26).map(NodeRecord::read).collect();

@@ -34,7 +34,7 @@ impl Refused {
             13 => "table 3 has one R for each reach, finite and not below zero",
             14 => "table 4 has head, flow and floor head for each section, all finite, and no head is below its floor",
             15 => "table 5 has every node's schedule, all finite, openings and speeds from 0 to 1",
-            20 => "each lent row holds the section count",
+            20 => "heads, flows and envelopes lent hold the section count, and the spare four values per pipe",
             21 => "the steps done are at most 1,000,000, and so are they with the steps asked for",
             22 => "heads, flows and envelopes lent are finite, and no head is below its floor",
             23 => "a root is taken of a finite number not below zero",

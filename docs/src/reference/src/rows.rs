@@ -1,6 +1,8 @@
-//! The six rows of f64 numbers that start and run-on are lent.
+//! The five slices of f64 numbers that start and run-on are lent.
 
-/// Six lent rows: the state, the envelopes and two spare rows.
+use crate::reader::{MOST_PIPES, MOST_SECTIONS};
+
+/// The lent slices: the state, the envelopes and the spare.
 pub struct Rows<'a> {
     pub heads: &'a mut [f64],
     pub flows: &'a mut [f64],
@@ -8,60 +10,73 @@ pub struct Rows<'a> {
     pub highest: &'a mut [f64],
     /// The envelope of minima.
     pub lowest: &'a mut [f64],
-    pub spare_heads: &'a mut [f64],
-    pub spare_flows: &'a mut [f64],
+    /// Two values per pipe end to work with; what it holds on entry has no effect.
+    pub spare: &'a mut [f64],
 }
 
+/// How many slices are lent, in the order heads, flows, highest, lowest, spare.
+pub const ROWS: usize = 5;
+
+/// Where the spare stands among them.
+pub const SPARE: usize = 4;
+
+/// A length for each lent slice, in their order.
+pub type Lengths = [usize; ROWS];
+
+/// What question 20 asks each slice to hold: the section count, and of the spare two values per
+/// pipe end.
+pub const fn needed(sections: usize, pipes: usize) -> Lengths {
+    [sections, sections, sections, sections, 4 * pipes]
+}
+
+/// Lengths that hold every job.
+pub const LONGEST: Lengths = needed(MOST_SECTIONS, MOST_PIPES);
+
 impl Rows<'_> {
-    /// Question 20: does each lent slice hold the section count?
-    pub fn hold(&self, sections: usize) -> bool {
+    /// Question 20: is each lent slice as long as needed?
+    pub fn hold(&self, needed: Lengths) -> bool {
         let lengths = [
             self.heads.len(),
             self.flows.len(),
             self.highest.len(),
             self.lowest.len(),
-            self.spare_heads.len(),
-            self.spare_flows.len(),
+            self.spare.len(),
         ];
-        lengths.iter().all(|&length| length >= sections)
+        lengths.iter().zip(needed).all(|(&length, needed)| length >= needed)
     }
 
-    /// Both spare rows +0 up to the section count.
-    pub fn clear_spare(&mut self, sections: usize) {
-        self.spare_heads[..sections].fill(0.0);
-        self.spare_flows[..sections].fill(0.0);
+    /// As many entries of the spare +0 as question 20 asks for.
+    pub fn clear_spare(&mut self, needed: Lengths) {
+        self.spare[..needed[SPARE]].fill(0.0);
     }
 }
 
-/// How many rows are lent, in the order heads, flows, highest, lowest, spare heads, spare flows.
-pub const ROWS: usize = 6;
-
-/// Six rows that a caller owns, to lend from and to compare by their bits.
+/// Five rows that a caller owns, to lend from and to compare by their bits.
 #[derive(Clone, Debug)]
 pub struct RowStore {
     pub rows: [Vec<f64>; ROWS],
 }
 
 impl RowStore {
-    /// Six rows of one length, every entry +0.
-    pub fn zeros(length: usize) -> RowStore {
-        RowStore { rows: std::array::from_fn(|_| vec![0.0; length]) }
+    /// Rows of these lengths, every entry +0.
+    pub fn zeros(lengths: Lengths) -> RowStore {
+        RowStore { rows: lengths.map(|length| vec![0.0; length]) }
     }
 
-    /// Six rows of one length, each entry a NaN with a payload of its own, so that a change of any
+    /// Rows of these lengths, each entry a NaN with a payload of its own, so that a change of any
     /// entry shows.
-    pub fn marked(length: usize) -> RowStore {
-        let mark = |row: usize, at: usize| 0x7ff8_0000_0000_0000 | (row as u64) << 32 | at as u64;
-        RowStore {
-            rows: std::array::from_fn(|row| {
-                (0..length).map(|at| f64::from_bits(mark(row + 1, at))).collect()
-            }),
-        }
+    pub fn marked(lengths: Lengths) -> RowStore {
+        RowStore { rows: std::array::from_fn(|row| marks(row, lengths[row])) }
+    }
+
+    /// Marks the first `count` entries of the spare again.
+    pub fn mark_spare(&mut self, count: usize) {
+        self.rows[SPARE][..count].copy_from_slice(&marks(SPARE, count));
     }
 
     pub fn lend(&mut self) -> Rows<'_> {
-        let [heads, flows, highest, lowest, spare_heads, spare_flows] = &mut self.rows;
-        Rows { heads, flows, highest, lowest, spare_heads, spare_flows }
+        let [heads, flows, highest, lowest, spare] = &mut self.rows;
+        Rows { heads, flows, highest, lowest, spare }
     }
 
     pub fn heads(&self) -> &[f64] {
@@ -84,4 +99,10 @@ impl RowStore {
     pub fn bits(&self) -> [Vec<u64>; ROWS] {
         std::array::from_fn(|row| self.rows[row].iter().map(|x| x.to_bits()).collect())
     }
+}
+
+/// The marks of a row: NaNs that tell the row and the entry.
+fn marks(row: usize, length: usize) -> Vec<f64> {
+    let mark = |at: usize| 0x7ff8_0000_0000_0000 | (row as u64 + 1) << 32 | at as u64;
+    (0..length).map(|at| f64::from_bits(mark(at))).collect()
 }

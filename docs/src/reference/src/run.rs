@@ -1,4 +1,5 @@
-//! Start and run-on.
+//! Start and run-on. The new state of a step is worked out apart from the lent slices, so the spare
+//! is only cleared here.
 
 use crate::job::{Job, Pipe};
 use crate::node;
@@ -36,27 +37,25 @@ pub struct Ran {
 /// Answers the section count.
 pub fn start(job: &[u8], mut rows: Rows<'_>) -> Result<usize, Refused> {
     let job = read(job)?;
-    let sections = job.sections();
-    ask(20, rows.hold(sections))?;
+    ask(20, rows.hold(job.needed()))?;
     for (section, initial) in job.initial.iter().enumerate() {
         rows.heads[section] = initial.head;
         rows.flows[section] = initial.flow;
         rows.highest[section] = initial.head;
         rows.lowest[section] = initial.head;
     }
-    rows.clear_spare(sections);
-    Ok(sections)
+    rows.clear_spare(job.needed());
+    Ok(job.sections())
 }
 
 /// The run-on: `done` steps are done (m), `count` more are asked for (N).
 pub fn run_on(job: &[u8], done: u64, count: u64, mut rows: Rows<'_>) -> Result<Ran, Refused> {
     let job = read(job)?;
-    let sections = job.sections();
-    ask(20, rows.hold(sections))?;
+    ask(20, rows.hold(job.needed()))?;
     ask(21, done <= MOST_STEPS && count <= MOST_STEPS - done)?;
     ask(22, state_admitted(&job, &rows))?;
     let ran = run(&job, done, count, &mut rows);
-    rows.clear_spare(sections);
+    rows.clear_spare(job.needed());
     Ok(ran)
 }
 
@@ -74,13 +73,13 @@ fn state_admitted(job: &Job, rows: &Rows<'_>) -> bool {
 /// Step after step; a stopped step changes no state or envelope.
 fn run(job: &Job, done: u64, count: u64, rows: &mut Rows<'_>) -> Ran {
     for step in done + 1..=done + count {
-        work_out(job, step, rows);
+        let new = work_out(job, step, rows);
         let floors = job.initial.iter().map(|initial| initial.floor);
-        let stop = first_stop(rows.spare_heads, rows.spare_flows, floors);
+        let stop = first_stop(new.iter().copied(), floors);
         if stop.is_some() {
             return Ran { done: step - 1, stop };
         }
-        take_over(job.sections(), rows);
+        take_over(&new, rows);
     }
     Ran { done: done + count, stop: None }
 }
@@ -88,12 +87,6 @@ fn run(job: &Job, done: u64, count: u64, rows: &mut Rows<'_>) -> Ran {
 /// The old state at a section.
 fn old(rows: &Rows<'_>, section: usize) -> Point {
     Point { head: rows.heads[section], flow: rows.flows[section] }
-}
-
-/// Writes the new head and flow of a section into the spare rows.
-fn put(rows: &mut Rows<'_>, section: usize, new: Point) {
-    rows.spare_heads[section] = new.head;
-    rows.spare_flows[section] = new.flow;
 }
 
 /// CP of a section of the pipe, `place` reaches after its section 0.
@@ -108,23 +101,22 @@ fn cm(job: &Job, pipe: &Pipe, place: usize, rows: &Rows<'_>) -> f64 {
     from_below(pipe.s, r, old(rows, pipe.first_section + place + 1))
 }
 
-/// Works out every section from the old state into the spare rows.
-fn work_out(job: &Job, step: u64, rows: &mut Rows<'_>) {
-    for pipe in &job.pipes {
-        for place in 1..pipe.reaches {
-            let new = inner(pipe.s, cp(job, pipe, place, rows), cm(job, pipe, place, rows));
-            put(rows, pipe.first_section + place, new);
-        }
-    }
+/// Works out every section from the old state, in the order of their numbers.
+fn work_out(job: &Job, step: u64, rows: &Rows<'_>) -> Vec<Point> {
     let node_heads = node_heads(job, step, rows);
+    let mut new = Vec::new();
     for pipe in &job.pipes {
         let k = start_k(cm(job, pipe, 0, rows));
         let head = node_heads[pipe.start];
-        put(rows, pipe.first_section, Point { head, flow: start_flow(pipe.s, k, head) });
+        new.push(Point { head, flow: start_flow(pipe.s, k, head) });
+        for place in 1..pipe.reaches {
+            new.push(inner(pipe.s, cp(job, pipe, place, rows), cm(job, pipe, place, rows)));
+        }
         let k = finish_k(cp(job, pipe, pipe.reaches, rows));
         let head = node_heads[pipe.finish];
-        put(rows, pipe.last_section(), Point { head, flow: finish_flow(pipe.s, k, head) });
+        new.push(Point { head, flow: finish_flow(pipe.s, k, head) });
     }
+    new
 }
 
 /// H of each node at the step, its sums taken in rising pipe number.
@@ -142,11 +134,10 @@ fn node_heads(job: &Job, step: u64, rows: &Rows<'_>) -> Vec<f64> {
 
 /// Scans new heads and flows upward; at one section 40 precedes 41.
 pub(crate) fn first_stop(
-    heads: &[f64],
-    flows: &[f64],
+    new: impl Iterator<Item = Point>,
     floors: impl Iterator<Item = f64>,
 ) -> Option<Stop> {
-    for (section, ((&head, &flow), floor)) in heads.iter().zip(flows).zip(floors).enumerate() {
+    for (section, (Point { head, flow }, floor)) in new.zip(floors).enumerate() {
         if !(head.is_finite() && flow.is_finite()) {
             return Some(Stop { cause: Cause::NotFinite, section });
         }
@@ -158,11 +149,10 @@ pub(crate) fn first_stop(
 }
 
 /// A finished step: the new state, and the envelopes where the head is greater or less.
-fn take_over(sections: usize, rows: &mut Rows<'_>) {
-    for section in 0..sections {
-        let head = rows.spare_heads[section];
+fn take_over(new: &[Point], rows: &mut Rows<'_>) {
+    for (section, &Point { head, flow }) in new.iter().enumerate() {
         rows.heads[section] = head;
-        rows.flows[section] = rows.spare_flows[section];
+        rows.flows[section] = flow;
         if head > rows.highest[section] {
             rows.highest[section] = head;
         }

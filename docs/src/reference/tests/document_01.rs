@@ -4,7 +4,7 @@ use reference::draft::{Draft, DraftNode};
 use reference::listing::{closing_line, line, listing};
 use reference::reader::read;
 use reference::refusal::Refused;
-use reference::rows::RowStore;
+use reference::rows::{RowStore, LONGEST, ROWS, SPARE};
 use reference::run::{run_on, start, Cause, Ran, Stop};
 use reference::samples::job_q;
 use reference::wave::Point;
@@ -12,7 +12,7 @@ use reference::wave::Point;
 /// The state after a start and `count` steps, with the answer.
 fn after(draft: &Draft, count: u64) -> (RowStore, Ran) {
     let bytes = draft.bytes();
-    let mut store = RowStore::marked(512);
+    let mut store = RowStore::marked(LONGEST);
     start(&bytes, store.lend()).unwrap();
     let ran = run_on(&bytes, 0, count, store.lend()).unwrap();
     (store, ran)
@@ -70,7 +70,7 @@ fn a_head_on_its_floor_runs_on() {
 #[test]
 fn a_million_steps_done_pass_with_none_asked_for_only() {
     let bytes = job_q().bytes();
-    let mut store = RowStore::zeros(3);
+    let mut store = RowStore::zeros(job_q().needed());
     start(&bytes, store.lend()).unwrap();
     let mut ask = |done, count| run_on(&bytes, done, count, store.lend());
     assert_eq!(ask(1_000_000, 0), Ok(Ran { done: 1_000_000, stop: None }));
@@ -131,24 +131,72 @@ fn a_t_beyond_every_f64_stops_even_a_reservoir() {
     assert_eq!(ran.stop, Some(Stop { cause: Cause::NotFinite, section: 0 }));
 }
 
+/// Job Q has 3 sections and 1 pipe: 4 entries of its spare are in use. Here every slice has some
+/// entries more.
+const LONGER_THAN_Q: [usize; ROWS] = [7, 5, 6, 4, 9];
+
+/// The bits of the spare after a call on job Q, which leaves all entries past those in use marked.
+fn spare_in_use(store: &RowStore) -> Vec<u64> {
+    let (bits, marked) = (store.bits(), RowStore::marked(LONGER_THAN_Q).bits());
+    for (row, used) in job_q().needed().into_iter().enumerate() {
+        assert_eq!(bits[row][used..], marked[row][used..], "row {row}");
+    }
+    bits[SPARE][..4].to_vec()
+}
+
 #[test]
-fn spare_rows_are_cleared_and_entries_past_the_count_untouched() {
+fn the_spare_is_cleared_and_entries_past_those_in_use_untouched() {
     let bytes = job_q().bytes();
-    let marked = RowStore::marked(7).bits();
-    let check = |store: &RowStore| {
-        for (row, bits) in store.bits().iter().enumerate() {
-            assert_eq!(bits[3..], marked[row][3..]);
-        }
-        assert!(store.bits()[4..].iter().all(|row| row[..3] == [0, 0, 0]));
-    };
-    let mut store = RowStore::marked(7);
+    let mut store = RowStore::marked(LONGER_THAN_Q);
     start(&bytes, store.lend()).unwrap();
-    check(&store);
+    assert_eq!(spare_in_use(&store), [0; 4]);
     for count in [0, 1, 5] {
-        store.rows[4][..3].fill(f64::NAN);
-        store.rows[5][..3].fill(-0.0);
+        store.mark_spare(4);
         run_on(&bytes, 0, count, store.lend()).unwrap();
-        check(&store);
+        assert_eq!(spare_in_use(&store), [0; 4]);
+    }
+}
+
+#[test]
+fn a_stop_clears_the_spare() {
+    // The level falls under the floor at step 3.
+    let mut draft = job_q();
+    draft.nodes[0].schedule = vec![10.0, 10.0, -1.0];
+    let bytes = draft.bytes();
+    let mut store = RowStore::marked(LONGER_THAN_Q);
+    start(&bytes, store.lend()).unwrap();
+    for (done, count) in [(0, 9), (2, 1)] {
+        store.mark_spare(4);
+        let stop = Some(Stop { cause: Cause::Parted, section: 0 });
+        assert_eq!(run_on(&bytes, done, count, store.lend()), Ok(Ran { done: 2, stop }));
+        assert_eq!(spare_in_use(&store), [0; 4]);
+    }
+}
+
+#[test]
+fn a_spare_of_three_is_refused_and_one_of_four_is_enough() {
+    let bytes = job_q().bytes();
+    for (length, answer) in [(0, Err(Refused(20))), (3, Err(Refused(20))), (4, Ok(3)), (5, Ok(3))] {
+        let mut store = RowStore::marked([3, 3, 3, 3, length]);
+        assert_eq!(start(&bytes, store.lend()), answer, "a spare of {length}");
+        let ran = answer.map(|_| Ran { done: 2, stop: None });
+        assert_eq!(run_on(&bytes, 0, 2, store.lend()), ran, "a spare of {length}");
+    }
+}
+
+#[test]
+fn what_the_spare_holds_has_no_effect() {
+    let bytes = job_q().bytes();
+    let (expected, _) = after(&job_q(), 5);
+    for fill in [f64::NAN, f64::INFINITY, -0.0, 1e300, -7.5] {
+        let mut store = RowStore::marked(LONGEST);
+        store.rows[SPARE][..4].fill(fill);
+        start(&bytes, store.lend()).unwrap();
+        for (done, count) in [(0, 2), (2, 3)] {
+            store.rows[SPARE][..4].fill(fill);
+            run_on(&bytes, done, count, store.lend()).unwrap();
+        }
+        assert_eq!(store.bits(), expected.bits());
     }
 }
 
@@ -169,14 +217,16 @@ fn minus_zero_is_not_below_zero_but_is_not_all_zero_bits() {
 #[test]
 fn a_refused_call_writes_nothing() {
     let bytes = job_q().bytes();
-    let marked = RowStore::marked(7).bits();
-    let mut store = RowStore::marked(7);
-    // Rows of NaNs: 22. Each row short in turn: 20, before 21 and 22.
+    let mut store = RowStore::marked(LONGER_THAN_Q);
+    let marked = store.bits();
+    // Rows of NaNs: 22. Steps past the limit: 21, before it.
     assert_eq!(run_on(&bytes, 0, 1, store.lend()), Err(Refused(22)));
+    assert_eq!(run_on(&bytes, 2_000_000, 1, store.lend()), Err(Refused(21)));
     assert_eq!(store.bits(), marked);
-    for row in 0..6 {
+    // Each slice short by one in turn: 20, before 21 and 22.
+    for row in 0..ROWS {
         let mut short = store.clone();
-        short.rows[row].truncate(2);
+        short.rows[row].truncate(job_q().needed()[row] - 1);
         let before = short.bits();
         assert_eq!(start(&bytes, short.lend()), Err(Refused(20)));
         assert_eq!(run_on(&bytes, 2_000_000, 1, short.lend()), Err(Refused(20)));
@@ -188,7 +238,7 @@ fn a_refused_call_writes_nothing() {
 fn a_run_cut_in_two_is_the_run_in_one() {
     let bytes = job_q().bytes();
     let (whole, ran) = after(&job_q(), 17);
-    let mut cut = RowStore::marked(512);
+    let mut cut = RowStore::marked(LONGEST);
     start(&bytes, cut.lend()).unwrap();
     assert_eq!(run_on(&bytes, 0, 4, cut.lend()).unwrap().done, 4);
     assert_eq!(run_on(&bytes, 4, 13, cut.lend()), Ok(ran));

@@ -11,7 +11,7 @@ use reference::wave::{from_above, from_below, Point, Sums};
 /// The rows after `count` steps.
 fn after(draft: &Draft, count: u64) -> RowStore {
     let bytes = draft.bytes();
-    let mut store = RowStore::zeros(draft.section_count());
+    let mut store = RowStore::zeros(draft.needed());
     start(&bytes, store.lend()).unwrap();
     assert_eq!(run_on(&bytes, 0, count, store.lend()), Ok(Ran { done: count, stop: None }));
     store

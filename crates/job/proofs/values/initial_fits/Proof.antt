@@ -1,44 +1,36 @@
--- `job::values::initial_fits` meets its contract: each entry passed has a yes. Assumes nothing.
-use Prim.Native.Nat.{_-_}
-use native.Mathlib.Omega.{arith}
-use borrow.Author.Tests.{not-true, not-false}
-use Rattle.loops.proofs.All.{Passing, passing-none, passing-step, passing-stop, passing-done}
-use Rattle.job.specs.Format.{sectionIn}
-use Rattle.job.specs.Questions.{sectionFits, initialFits}
+-- `job::values::initial_fits` meets its contract: question 14 by its two halves, where a half has a yes exactly where nothing is counted. Assumes nothing.
+use mathlib.Core.Path.{_≡_, sym, ap, _∙_}
+use mathlib.Core.Bool.{Bool, true, false, _&&_}
+use mathlib.Core.List.{List}
+use Prim.Native.Nat.{ℕ}
+use lib.Dec.{eqb}
+use denote.Ref.{now}
+use borrow.Author.Tests.{eq-eqb, ne-eqb}
+use Rattle.job.specs.Questions.{initialFits}
+use Rattle.job.specs.Asked.{sectionsFinite, noneBelowFloor}
+use Rattle.job.proofs.SectionLaws.{initial-halves, three-finite}
 use borrow.Author.Needs.{needs}
 use Rattle.job.proofs.values.initial_fits.Statement.{statement}
 use Rattle.job.proofs.values.initial_fits.Tie as tie
 
-abbrev Inv-loop : tie.InvT-loop
-Inv-loop initial n s₀ s = Passing (λ s. sectionFits (sectionIn initial s)) n s
+-- by what was found of the first half
+halves : (initial : List ℕ) (each : Bool) → sectionsFinite initial ≡ each → each && noneBelowFloor initial ≡ initialFits initial
+halves initial each e = sym (initial-halves initial ∙ ap (λ (t : Bool). t && noneBelowFloor initial) e)
 
-abbrev μ-loop : tie.MeasureT-loop
-μ-loop initial n s₀ s = n - s
+-- all numbers are finite where each section is
+counted : (c : tie.After-not-finite) → eqb (c .not-finite .result) 0 ≡ sectionsFinite (now (c .before .before .args .initial))
+counted c = c .not-finite .ensures ∙ three-finite (now (c .before .before .args .initial)) _
 
-loop-holds : tie.Need-loop-holds Inv-loop μ-loop
-loop-holds c = passing-none _
+returns : tie.Need-returns
+returns c = halves (now (c .before .before .before .args .initial)) false (sym (counted (c .before)) ∙ ne-eqb _ 0 (c .if1 .taken))
 
-returns : tie.Need-returns Inv-loop μ-loop
-unfolding initialFits
-returns c = passing-stop _ (c .before .before .loop-test .taken) (c .before .section-fits .ensures) (not-true _ (c .if1 .taken))
+below-floor-requires : tie.Need-below-floor-requires
+below-floor-requires c κs = sym (counted (c .before)) ∙ eq-eqb _ 0 (c .if1 .left)
 
-loop-again : tie.Need-loop-again Inv-loop μ-loop
-loop-again c = passing-step _ (c .before .before .before .loop .inv) (omega arith) (c .before .section-fits .ensures) (not-false _ (c .if1 .left))
-
-returns-2 : tie.Need-returns-2 Inv-loop μ-loop
-unfolding initialFits
-returns-2 c = passing-done _ (c .before .loop .inv) (c .loop-test .left)
+returns-2 : tie.Need-returns-2
+returns-2 c =
+    let counts : tie.After-not-finite = c .before .before in
+    c .below-floor .ensures ∙ halves (now (counts .before .before .args .initial)) true (sym (counted counts) ∙ eq-eqb _ 0 (c .before .if1 .left))
 
 pub initial-fits-spec : {M : Type 1} → statement M
-initial-fits-spec =
-    tie.close
-    (tie.spec
-    Inv-loop
-    μ-loop
-    loop-holds
-    (λ c κs. search needs)
-    returns
-    (λ c. search needs)
-    (λ c. search needs)
-    loop-again
-    returns-2)
+initial-fits-spec = tie.close (tie.spec (λ c. search needs) (λ c κs. search needs) returns below-floor-requires returns-2)

@@ -6,7 +6,7 @@ use borrow.Author.Needs.{needs}
 use Rattle.job.specs.Format.{jobOf}
 use Rattle.job.proofs.Accepted.{initial-length, initial-fits}
 use Rattle.rows.proofs.InState.{acceptable-is}
-use Rattle.march.proofs.Accept.{pairs-accepted}
+use Rattle.ends.proofs.Accept.{pairs-accepted}
 use Rattle.steps.proofs.Taken.{floor-read}
 use Rattle.surge.proofs.state.acceptable.Statement.{statement}
 use Rattle.surge.proofs.state.acceptable.Tie as tie
@@ -28,11 +28,11 @@ acceptable-requires c κs =
     )
 
 returns : tie.Need-returns
-returns c a b =
+returns c e =
     let s = c .before .before .before .before .before .before .before in
     c .acceptable .ensures
     ∙ rw (c .before .table .ensures, s .pre .0 .1)
-    (acceptable-is (jobOf (s .args .job .now)) _ (floor-read _ (s .pre .0 .0)) (gathered (s .args .heads .now) (s .args .flows .now) (s .args .highest .now) (s .args .lowest .now) a b))
+    (acceptable-is (jobOf (s .args .job .now)) _ (floor-read _ (s .pre .0 .0)) (gathered (s .args .heads .now) (s .args .flows .now) (s .args .highest .now) (s .args .lowest .now) e))
 
 pub acceptable-spec : {M : Type 1} → statement M
 acceptable-spec = tie.close (tie.spec table-requires acceptable-requires returns)

@@ -9,7 +9,7 @@ use Rattle.job.specs.Job.{initialAt}
 use Rattle.job.specs.Format.{jobOf}
 use Rattle.job.specs.Questions.{initialFits}
 use Rattle.job.proofs.Accepted.{initial-length, initial-fits}
-use Rattle.march.proofs.Accept.{pairs-accepted}
+use Rattle.ends.proofs.Accept.{pairs-accepted}
 use Rattle.surge.proofs.state.write_start.Statement.{statement}
 use Rattle.surge.proofs.state.write_start.Tie as tie
 

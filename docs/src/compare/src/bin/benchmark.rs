@@ -1,26 +1,36 @@
-//! Times the proved run-on against the reference's, written for speed, on rows placed the same way,
-//! in turns. Answers and rows are compared in every bit first. Prints the ratio of each round's two
-//! times as a median, and the time per section and step.
+//! Times the proved run-on against the forms of the reference's, written for speed, on rows placed
+//! the same way, in turns. Answers and rows are compared in every bit first. Prints the ratio of each
+//! round's times to each form as a median, and the time per section and step. Where the rows come
+//! to lie differs from process to process and can move a time by half, so run it a few times.
 
 use compare::both::{differ, ran, same_rows};
 use compare::ours::{self, Answer};
-use reference::baseline;
+use reference::baseline::{in_place, own_rows};
 use reference::draft::Draft;
-use reference::rows::{RowStore, ROWS};
+use reference::rows::{Lengths, RowStore, LONGEST, SPARE};
 use reference::run;
 use reference::samples::{many_pipes, one_long_pipe};
 use std::time::Instant;
 
 const SECTIONS: usize = 512;
-/// Entries between the rows' ends: 512 f64 are 4,096 bytes, and rows that far apart would share
-/// places in the cache.
-const LENGTH: usize = SECTIONS + 24;
+/// The rows have some entries more than are in use: 512 f64 are 4,096 bytes, and rows that far apart
+/// would share places in the cache.
+const LONGER: usize = LONGEST[0] + 48;
+const LENGTHS: Lengths = [LONGER, LONGER, LONGER, LONGER, LONGEST[SPARE]];
 
 #[derive(Clone, Copy)]
 enum Which {
     Ours,
-    Baseline,
+    /// Rust that overwrites the state where it stands, every section of a step looked at before.
+    InPlace,
+    /// The same, sections looked at only where bounds do not rule a stop out.
+    ByBounds,
+    /// Rust with rows of its own on the stack.
+    OwnRows,
 }
+
+/// In the order in which they take turns.
+const ALL: [Which; 4] = [Which::Ours, Which::InPlace, Which::ByBounds, Which::OwnRows];
 
 struct Plan {
     name: &'static str,
@@ -36,44 +46,63 @@ impl Plan {
         Plan { name, job: draft.bytes(), calls, count, rounds }
     }
 
-    /// The start, then the calls; the rows are those handed in, for both alike.
+    /// The start, then the calls; the rows are those handed in, for all alike.
     fn run(&self, which: Which, rows: &mut RowStore) -> (Answer, f64) {
         run::start(&self.job, rows.lend()).expect("the job is accepted");
         let mut answer = Answer { number: 0, section: 0, steps: 0 };
         let before = Instant::now();
         for call in 0..self.calls {
-            let done = call * self.count;
+            let (job, done, count) = (&self.job, call * self.count, self.count);
             answer = match which {
-                Which::Ours => ours::run_on(&self.job, done, self.count, rows, [LENGTH; ROWS]),
-                Which::Baseline => ran(baseline::run_on(&self.job, done, self.count, rows.lend())),
+                Which::Ours => ours::run_on(job, done, count, rows, LENGTHS),
+                Which::InPlace => ran(in_place::run_on(job, done, count, rows.lend())),
+                Which::ByBounds => ran(in_place::run_on_by_bounds(job, done, count, rows.lend())),
+                Which::OwnRows => ran(own_rows::run_on(job, done, count, rows.lend())),
             };
         }
         (answer, before.elapsed().as_nanos() as f64)
     }
 
-    fn measure(&self) {
-        let (mut rows, mut other) = (RowStore::marked(LENGTH), RowStore::marked(LENGTH));
+    /// Answers and rows of all alike; the rows are left for the rounds.
+    fn compare(&self) -> RowStore {
+        let mut rows = RowStore::marked(LENGTHS);
         let (answer, _) = self.run(Which::Ours, &mut rows);
-        let (expected, _) = self.run(Which::Baseline, &mut other);
-        if answer != expected || answer.steps != self.calls * self.count {
-            differ(self.name, &self.job, &format!("{answer:?}, {expected:?}"));
+        for which in &ALL[1..] {
+            let mut other = RowStore::marked(LENGTHS);
+            let (expected, _) = self.run(*which, &mut other);
+            if answer != expected || answer.steps != self.calls * self.count {
+                differ(self.name, &self.job, &format!("{answer:?}, {expected:?}"));
+            }
+            same_rows(self.name, &self.job, &rows, &other);
         }
-        same_rows(self.name, &self.job, &rows, &other);
-        let mut times = [Vec::new(), Vec::new()];
-        let mut ratios = Vec::new();
+        rows
+    }
+
+    fn measure(&self) {
+        let mut rows = self.compare();
+        let mut rounds = Vec::new();
         for _ in 0..self.rounds {
-            let (_, ours) = self.run(Which::Ours, &mut rows);
-            let (_, baseline) = self.run(Which::Baseline, &mut rows);
-            times[0].push(ours);
-            times[1].push(baseline);
-            ratios.push(ours / baseline);
+            rounds.push(ALL.map(|which| self.run(which, &mut rows).1));
         }
         let cells = (self.calls * self.count) as f64 * SECTIONS as f64;
-        let [ours, baseline] = times.map(|times| (least(&times) / cells, median(times) / cells));
-        println!(
-            "{}: ratio {:.2} (of least times {:.2}); ns per section and step, median and least: ours {:.2} {:.2}, baseline {:.2} {:.2}",
-            self.name, median(ratios), ours.0 / baseline.0, ours.1, ours.0, baseline.1, baseline.0
-        );
+        let times: [Vec<f64>; 4] =
+            std::array::from_fn(|which| rounds.iter().map(|round| round[which] / cells).collect());
+        let least = times.each_ref().map(|times| least(times));
+        let ratio = |to: usize| median(rounds.iter().map(|round| round[0] / round[to]).collect());
+        let [ours, in_place, by_bounds, own_rows] = times.map(median);
+        println!("{}:", self.name);
+        println!("    ours {ours:.2} ns per section and step (least {:.2})", least[0]);
+        for (form, name, time) in [
+            (1, "Rust in place", in_place),
+            (2, "Rust in place by bounds", by_bounds),
+            (3, "Rust with rows of its own", own_rows),
+        ] {
+            let (median, of_least) = (ratio(form), least[0] / least[form]);
+            println!(
+                "    {name} {time:.2} ({:.2}); ours to it {median:.2} ({of_least:.2})",
+                least[form]
+            );
+        }
     }
 }
 

@@ -39,7 +39,7 @@ pub fn calls(tally: &mut Tally) {
     for place in 0..400 {
         let draft = if place % 2 == 0 { sound(&mut random) } else { odd(&mut random) };
         let job = draft.bytes();
-        let mut lent = Lent::marked(draft.section_count());
+        let mut lent = Lent::marked(draft.needed());
         both::start(tally, &job, &mut lent);
         short_rows(tally, &mut random, &draft, &lent);
         limits(tally, &job, &lent);
@@ -48,19 +48,22 @@ pub fn calls(tally: &mut Tally) {
     }
 }
 
-/// Question 20 with each row short in turn, and before 21 and 22.
+/// Question 20 with each slice short in turn, the others exactly long enough or longer, and before
+/// 21 and 22.
 fn short_rows(tally: &mut Tally, random: &mut Random, draft: &Draft, lent: &Lent) {
-    let job = draft.bytes();
+    let (job, needed) = (draft.bytes(), draft.needed());
     for row in 0..ROWS {
-        for length in [0, random.below(draft.section_count()), draft.section_count() - 1] {
+        for length in [0, random.below(needed[row]), needed[row] - 1] {
             let mut short = lent.clone();
+            short.lengths = needed.map(|length| length + random.below(4));
             short.lengths[row] = length;
+            short.fill_spare(random, needed);
             expect(both::start(tally, &job, &mut short).number, 20);
             expect(both::run_on(tally, &job, 0, 3, &mut short).number, 20);
             expect(both::run_on(tally, &job, 2, u64::MAX, &mut short).number, 20);
             short.store.rows[0][0] = f64::NAN;
             expect(both::run_on(tally, &job, 0, 3, &mut short).number, 20);
-            tally.count("calls lent a row too short", 4);
+            tally.count("calls lent a slice too short", 4);
         }
     }
 }
@@ -133,6 +136,7 @@ fn any_numbers(tally: &mut Tally, random: &mut Random, draft: &Draft, lent: &Len
                 }
             }
         }
+        rows.fill_spare(random, draft.needed());
         let (done, count) = (random.below(300) as u64, random.below(10) as u64);
         let number = both::run_on(tally, &job, done, count, &mut rows).number;
         assert_ne!(number, 22, "any numbers not below the floors are let through");

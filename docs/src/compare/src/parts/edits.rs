@@ -6,6 +6,10 @@ use crate::ours::{self, Answer};
 use crate::tally::Tally;
 use reference::draft::{Draft, DraftNode};
 use reference::generate::{odd, sound, Random};
+use reference::rows::Lengths;
+
+/// Must be reached.
+pub const SHARP: &str = "sections at k + d steps that differ: the bound is sharp";
 
 pub fn edits(tally: &mut Tally) {
     let mut random = Random::new(105);
@@ -50,7 +54,7 @@ fn first_unlike(a: &DraftNode, b: &DraftNode) -> Option<u64> {
 
 struct Pair {
     jobs: [Vec<u8>; 2],
-    sections: usize,
+    needed: Lengths,
     far: Vec<Option<u64>>,
     k: u64,
 }
@@ -59,15 +63,16 @@ impl Pair {
     fn new(draft: &Draft, edited: &Draft, node: u8, k: u64) -> Pair {
         Pair {
             jobs: [draft.bytes(), edited.bytes()],
-            sections: draft.section_count(),
+            needed: draft.needed(),
             far: distance::from_node(draft, node),
             k,
         }
     }
 
-    /// Both by the same calls, compared after each while both have done the same steps.
+    /// Both by the same calls, compared after each while both have done the same steps; their spares
+    /// hold anything.
     fn compare(&self, tally: &mut Tally, random: &mut Random) {
-        let mut runs = [Lent::marked(self.sections), Lent::marked(self.sections)];
+        let mut runs = [Lent::marked(self.needed), Lent::marked(self.needed)];
         for (job, lent) in self.jobs.iter().zip(&mut runs) {
             if ours::start(job, &mut lent.store, lent.lengths).number != 0 {
                 // The longer schedule has made the job too large.
@@ -81,6 +86,7 @@ impl Pair {
             let mut answers = [Answer { number: 0, section: 0, steps: 0 }; 2];
             for which in 0..2 {
                 let lent = &mut runs[which];
+                lent.fill_spare(random, self.needed);
                 let job = &self.jobs[which];
                 answers[which] =
                     ours::run_on(job, done[which], count, &mut lent.store, lent.lengths);
@@ -123,7 +129,7 @@ impl Pair {
             } else if *far == m.checked_sub(self.k) {
                 tally.count("sections at k + d steps", 1);
                 if !alike {
-                    tally.count("sections at k + d steps that differ: the bound is sharp", 1);
+                    tally.count(SHARP, 1);
                 }
             }
         }

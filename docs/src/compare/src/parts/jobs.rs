@@ -4,8 +4,10 @@ use crate::both::{self, Lent};
 use crate::tally::Tally;
 use reference::draft::Draft;
 use reference::generate::{cut_up, damaged, damaged_anywhere, odd, sound, Random};
+use reference::rows::LONGEST;
 
-/// Read, started and run on in several calls, into rows of NaNs with some entries to spare.
+/// Read, started and run on in several calls, into rows of NaNs with some entries past those in
+/// use, and with anything in the spare.
 pub fn sound_and_odd_jobs(tally: &mut Tally) {
     let mut random = Random::new(101);
     for _ in 0..6000 {
@@ -23,13 +25,11 @@ pub fn sound_and_odd_jobs(tally: &mut Tally) {
 fn run(tally: &mut Tally, random: &mut Random, draft: &Draft) {
     let job = draft.bytes();
     both::read(tally, &job);
-    let mut lent = Lent::marked(draft.section_count());
-    for length in &mut lent.lengths {
-        *length += random.below(4);
-    }
+    let mut lent = Lent::marked_and_longer(random, draft.needed());
     both::start(tally, &job, &mut lent);
     let mut done = 0;
     for count in cut_up(random, u64::from(draft.steps)) {
+        lent.fill_spare(random, draft.needed());
         done = both::run_on(tally, &job, done, count, &mut lent).steps;
     }
 }
@@ -69,7 +69,7 @@ pub fn damaged_jobs(tally: &mut Tally) {
 /// runs on.
 fn refused_everywhere(tally: &mut Tally, job: &[u8]) -> u64 {
     let answer = both::read(tally, job);
-    let mut lent = Lent::marked(512);
+    let mut lent = Lent::marked(LONGEST);
     both::start(tally, job, &mut lent);
     both::run_on(tally, job, 0, 9, &mut lent);
     answer.number

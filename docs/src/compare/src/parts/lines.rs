@@ -5,6 +5,7 @@ use crate::ours;
 use crate::tally::Tally;
 use reference::generate::{odd, sound, Random};
 use reference::listing::{line, listing};
+use reference::rows::LONGEST;
 use reference::wave::Point;
 
 /// Any section, any bits and any length of slice, the bytes past the line compared too.
@@ -73,7 +74,7 @@ pub fn listings(tally: &mut Tally) {
     for place in 0..300 {
         let draft = if place % 2 == 0 { sound(&mut random) } else { odd(&mut random) };
         let job = draft.bytes();
-        let mut lent = Lent::marked(512);
+        let mut lent = Lent::marked(LONGEST);
         ours::start(&job, &mut lent.store, lent.lengths);
         let answer = ours::run_on(&job, 0, u64::from(draft.steps), &mut lent.store, lent.lengths);
         let mut text = String::new();

@@ -5,6 +5,10 @@ use crate::ours;
 use crate::tally::Tally;
 use reference::draft::Draft;
 use reference::generate::{cut_up, odd, sound, Random};
+use reference::rows::{ROWS, SPARE};
+
+/// Must be reached.
+pub const SPARE_TOO_SHORT: &str = "refused calls between run-ons, the spare alone too short";
 
 pub fn lists(tally: &mut Tally) {
     let mut random = Random::new(104);
@@ -20,7 +24,7 @@ pub fn lists(tally: &mut Tally) {
 fn list(tally: &mut Tally, random: &mut Random, draft: &Draft) {
     let (job, steps) = (draft.bytes(), u64::from(draft.steps));
     let begun = {
-        let mut lent = Lent::marked(draft.section_count() + random.below(3));
+        let mut lent = Lent::marked_and_longer(random, draft.needed());
         ours::start(&job, &mut lent.store, lent.lengths);
         lent
     };
@@ -32,8 +36,9 @@ fn list(tally: &mut Tally, random: &mut Random, draft: &Draft) {
         let (mut done, mut last) = (0, None);
         for count in counts {
             if random.once_in(3) {
-                refused_between(tally, random, &job, done, &lent);
+                refused_between(tally, random, draft, done, &mut lent);
             }
+            lent.fill_spare(random, draft.needed());
             let answer = ours::run_on(&job, done, count, &mut lent.store, lent.lengths);
             tally.count("run-ons in lists", 1);
             if answer.number != 0 && answer != long_answer {
@@ -56,20 +61,31 @@ fn list(tally: &mut Tally, random: &mut Random, draft: &Draft) {
     }
 }
 
-/// A call that is refused leaves every row as it was.
-fn refused_between(tally: &mut Tally, random: &mut Random, job: &[u8], done: u64, lent: &Lent) {
-    let mut rows = lent.clone();
-    let number = match random.below(2) {
-        0 => {
-            let row = random.below(6);
-            rows.lengths[row] = 1;
-            ours::run_on(job, done, 5, &mut rows.store, rows.lengths).number
+/// A call that is refused leaves every row as it was: a slice of it too short, or too many steps.
+fn refused_between(
+    tally: &mut Tally,
+    random: &mut Random,
+    draft: &Draft,
+    done: u64,
+    lent: &mut Lent,
+) {
+    let (job, needed) = (draft.bytes(), draft.needed());
+    lent.fill_spare(random, needed);
+    let before = lent.clone();
+    let (mut count, mut lengths, mut expected) = (1_000_001 - done, lent.lengths, 21);
+    if random.once_in(2) {
+        count = random.pick(&[5, count]);
+        let row = random.below(ROWS);
+        lengths[row] = random.pick(&[1, needed[row] - 1]);
+        expected = 20;
+        if row == SPARE {
+            tally.count(SPARE_TOO_SHORT, 1);
         }
-        _ => ours::run_on(job, done, 1_000_001 - done, &mut rows.store, rows.lengths).number,
-    };
-    if number != 20 && number != 21 {
-        differ("refused call in a list", job, &format!("the number {number}"));
     }
-    same_rows("refused call in a list", job, &rows.store, &lent.store);
+    let number = ours::run_on(&job, done, count, &mut lent.store, lengths).number;
+    if number != expected {
+        differ("refused call in a list", &job, &format!("the number {number}"));
+    }
+    same_rows("refused call in a list", &job, &lent.store, &before.store);
     tally.count("refused calls between run-ons", 1);
 }

@@ -1,20 +1,25 @@
 //! The nodes of one step, and the sections at the ends of the pipes.
 
-use super::plan::{PipePlan, Plan};
-use super::sweep::{EndK, Faults, State};
-use super::two::Two;
+use super::plan::{PipePlan, Plan, MOST};
 use crate::node::head_by;
-use crate::wave::{finish_flow, start_flow, Sums};
+use crate::wave::{finish_flow, start_flow, Point, Sums};
+
+/// K at the start end and at the finish end.
+#[derive(Clone, Copy)]
+pub struct EndK {
+    pub start: f64,
+    pub finish: f64,
+}
 
 /// K at the ends of each pipe, and B of each node.
 pub struct Ends {
-    k: [EndK; 32],
-    b: [f64; 32],
+    k: [EndK; MOST],
+    b: [f64; MOST],
 }
 
 impl Ends {
     pub fn none() -> Ends {
-        Ends { k: [EndK { start: 0.0, finish: 0.0 }; 32], b: [0.0; 32] }
+        Ends { k: [EndK { start: 0.0, finish: 0.0 }; MOST], b: [0.0; MOST] }
     }
 
     /// Before a step: B of each node +0.
@@ -30,23 +35,24 @@ impl Ends {
         self.b[pipe.finish] += k.finish;
     }
 
-    /// Writes head and flow of every end section.
+    /// Hands on the new start section and finish section of each pipe, with the pipe's number.
     #[inline(always)]
-    pub fn write(&self, plan: &Plan<'_>, step: u64, new: &mut State<'_>, faults: &mut Faults) {
-        let mut heads = [0.0; 32];
+    pub fn new_ends(
+        &self,
+        plan: &Plan<'_>,
+        step: u64,
+        mut hand_on: impl FnMut(usize, &PipePlan, Point, Point),
+    ) {
+        let mut heads = [0.0; MOST];
         for ((node, &b), head) in plan.nodes().iter().zip(&self.b).zip(&mut heads) {
             let sums = Sums { b, t: node.t };
             *head = head_by(root, node.kind, plan.value_at(node, step), sums);
         }
-        for (pipe, k) in plan.pipes().iter().zip(&self.k) {
-            let (first, last) = (pipe.first, pipe.first + pipe.reaches);
+        for (number, (pipe, k)) in plan.pipes().iter().zip(&self.k).enumerate() {
             let (upper, lower) = (heads[pipe.start], heads[pipe.finish]);
-            let upper_flow = start_flow(pipe.s, k.start, upper);
-            let lower_flow = finish_flow(pipe.s, k.finish, lower);
-            (new.heads[first], new.flows[first]) = (upper, upper_flow);
-            (new.heads[last], new.flows[last]) = (lower, lower_flow);
-            let floors = Two([plan.floors[first], plan.floors[last]]);
-            faults.look_at(Two([upper, lower]), Two([upper_flow, lower_flow]), floors);
+            let start = Point { head: upper, flow: start_flow(pipe.s, k.start, upper) };
+            let finish = Point { head: lower, flow: finish_flow(pipe.s, k.finish, lower) };
+            hand_on(number, pipe, start, finish);
         }
     }
 }

@@ -1,10 +1,14 @@
-//! A job read quickly, into arrays of fixed length and with no number looked at twice.
+//! A job read quickly, into arrays with an entry per pipe or node. The numbers of reaches and
+//! sections stay in the job's bytes, to be judged by [`super::look`].
 
 use crate::fields::{f64_at, u16_at, u32_at};
 use crate::job::Kind;
 use crate::reader::{FIRST_TABLE, MOST_BYTES, MOST_SECTIONS, MOST_STEPS};
+use crate::rows::{needed, Lengths};
+use std::ops::RangeInclusive;
 
-const MOST: usize = 32;
+/// Pipes at the most, and nodes.
+pub const MOST: usize = 32;
 
 #[derive(Clone, Copy)]
 pub struct PipePlan {
@@ -14,6 +18,15 @@ pub struct PipePlan {
     pub s: f64,
     /// The number of its section 0.
     pub first: usize,
+    /// The number of its first reach.
+    pub first_reach: usize,
+}
+
+impl PipePlan {
+    /// The numbers of its sections.
+    pub fn sections(&self) -> RangeInclusive<usize> {
+        self.first..=self.first + self.reaches
+    }
 }
 
 #[derive(Clone, Copy)]
@@ -32,34 +45,53 @@ pub struct Plan<'a> {
     pipes: [PipePlan; MOST],
     node_count: usize,
     nodes: [NodePlan; MOST],
-    /// R of the reach below each section; 0 at a pipe's last section, which has none.
-    pub friction: [f64; MOST_SECTIONS],
-    pub floors: [f64; MOST_SECTIONS],
+    /// R of each reach, pipe by pipe.
+    friction: &'a [[u8; 8]],
+    /// Head, flow and floor of each section.
+    initial: &'a [[u8; 24]],
     schedules: &'a [[u8; 8]],
 }
 
 impl<'a> Plan<'a> {
-    /// The plan of a job that passes questions 1 to 15; none of any other.
-    pub fn of(bytes: &'a [u8]) -> Option<Plan<'a>> {
-        let [pipes, nodes, friction, sections, schedules] = tables(bytes)?;
-        let pipe = PipePlan { start: 0, finish: 0, reaches: 0, s: 0.0, first: 0 };
+    pub fn empty() -> Plan<'a> {
+        let pipe = PipePlan { start: 0, finish: 0, reaches: 0, s: 0.0, first: 0, first_reach: 0 };
         let node = NodePlan { kind: Kind::Junction, t: 0.0, first_entry: 0, entries: 0 };
-        let mut plan = Plan {
+        Plan {
             sections: 0,
-            pipe_count: records(pipes, 12, 1)?,
+            pipe_count: 0,
             pipes: [pipe; MOST],
-            node_count: records(nodes, 26, 2)?,
+            node_count: 0,
             nodes: [node; MOST],
-            friction: [0.0; MOST_SECTIONS],
-            floors: [0.0; MOST_SECTIONS],
-            schedules: schedules.as_chunks().0,
+            friction: &[],
+            initial: &[],
+            schedules: &[],
+        }
+    }
+
+    /// Reads a job into an empty plan, which is too large to be handed about. True where it passes
+    /// questions 1 to 12 and 15 and has tables 3 and 4 of the right lengths.
+    pub fn read(&mut self, bytes: &'a [u8]) -> bool {
+        let Some([pipes, nodes, friction, sections, schedules]) = tables(bytes) else {
+            return false;
         };
-        let sound = plan.read_pipes(pipes)
-            && plan.read_nodes(nodes)
-            && plan.read_friction(friction)
-            && plan.read_sections(sections)
-            && plan.schedules_sound(schedules.len());
-        sound.then_some(plan)
+        let counts = (records(pipes, 12, 1), records(nodes, 26, 2));
+        let (Some(pipe_count), Some(node_count)) = counts else {
+            return false;
+        };
+        (self.pipe_count, self.node_count) = (pipe_count, node_count);
+        self.friction = friction.as_chunks().0;
+        self.initial = sections.as_chunks().0;
+        self.schedules = schedules.as_chunks().0;
+        self.read_pipes(pipes)
+            && self.read_nodes(nodes)
+            && friction.len() == 8 * (self.sections - pipe_count)
+            && sections.len() == 24 * self.sections
+            && self.schedules_sound(schedules.len())
+    }
+
+    /// What question 20 asks each lent slice to hold.
+    pub fn needed(&self) -> Lengths {
+        needed(self.sections, self.pipe_count)
     }
 
     pub fn pipes(&self) -> &[PipePlan] {
@@ -70,6 +102,26 @@ impl<'a> Plan<'a> {
         &self.nodes[..self.node_count]
     }
 
+    pub fn all_friction(&self) -> &'a [[u8; 8]] {
+        self.friction
+    }
+
+    pub fn all_initial(&self) -> &'a [[u8; 24]] {
+        self.initial
+    }
+
+    /// R of each reach of a pipe.
+    #[inline(always)]
+    pub fn friction(&self, pipe: &PipePlan) -> &'a [[u8; 8]] {
+        &self.friction[pipe.first_reach..pipe.first_reach + pipe.reaches]
+    }
+
+    /// Head, flow and floor of each section of a pipe.
+    #[inline(always)]
+    pub fn initial(&self, pipe: &PipePlan) -> &'a [[u8; 24]] {
+        &self.initial[pipe.sections()]
+    }
+
     /// v of a node at a step.
     pub fn value_at(&self, node: &NodePlan, step: u64) -> f64 {
         let entry = step.min(node.entries as u64) as usize - 1;
@@ -78,14 +130,16 @@ impl<'a> Plan<'a> {
 
     /// Questions 7 to 9 and 12, with T of each node.
     fn read_pipes(&mut self, table: &[u8]) -> bool {
-        for (record, pipe) in table.as_chunks::<12>().0.iter().zip(&mut self.pipes) {
+        let records = table.as_chunks::<12>().0.iter();
+        for (number, (record, pipe)) in records.zip(&mut self.pipes).enumerate() {
             let (start, finish) = (usize::from(record[0]), usize::from(record[1]));
             let (reaches, s) = (usize::from(u16_at(record, 2)), f64_at(record, 4));
             let joins = start != finish && start < self.node_count && finish < self.node_count;
             if !(joins && (1..=511).contains(&reaches) && s.is_finite() && s > 0.0) {
                 return false;
             }
-            *pipe = PipePlan { start, finish, reaches, s, first: self.sections };
+            let (first, first_reach) = (self.sections, self.sections - number);
+            *pipe = PipePlan { start, finish, reaches, s, first, first_reach };
             self.sections += reaches + 1;
             self.nodes[start].t += s;
             self.nodes[finish].t += s;
@@ -114,41 +168,6 @@ impl<'a> Plan<'a> {
             first_entry += entries;
         }
         first_entry == self.schedules.len()
-    }
-
-    /// Question 13.
-    fn read_friction(&mut self, table: &[u8]) -> bool {
-        let reaches = self.sections - self.pipe_count;
-        if table.len() != 8 * reaches {
-            return false;
-        }
-        let mut rest = table.as_chunks::<8>().0;
-        let mut bad = 0_u64;
-        for pipe in &self.pipes[..self.pipe_count] {
-            let (own, after) = rest.split_at(pipe.reaches);
-            let row = &mut self.friction[pipe.first..pipe.first + pipe.reaches];
-            for (r, bytes) in row.iter_mut().zip(own) {
-                *r = f64::from_le_bytes(*bytes);
-                bad += u64::from(!((*r >= 0.0) & (*r <= f64::MAX)));
-            }
-            rest = after;
-        }
-        bad == 0
-    }
-
-    /// Question 14.
-    fn read_sections(&mut self, table: &[u8]) -> bool {
-        if table.len() != 24 * self.sections {
-            return false;
-        }
-        let mut bad = 0_u64;
-        for (record, floor) in table.as_chunks::<24>().0.iter().zip(&mut self.floors) {
-            let [head, flow, lowest] = [0, 8, 16].map(|at| f64_at(record, at));
-            let finite = head.is_finite() & flow.is_finite() & lowest.is_finite();
-            bad += u64::from(!(finite & (head >= lowest)));
-            *floor = lowest;
-        }
-        bad == 0
     }
 
     /// Question 15; the number of entries is known to be right but for bytes after the last.

@@ -13,6 +13,12 @@ impl Two {
         Two([x, x])
     }
 
+    /// Two fields of a job.
+    #[inline(always)]
+    pub fn of_bytes(fields: [[u8; 8]; 2]) -> Two {
+        Two(fields.map(f64::from_le_bytes))
+    }
+
     #[inline(always)]
     fn each(self, other: Two, work: impl Fn(f64, f64) -> f64) -> Two {
         Two([work(self.0[0], other.0[0]), work(self.0[1], other.0[1])])

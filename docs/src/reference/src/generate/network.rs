@@ -2,7 +2,6 @@
 
 use super::Random;
 
-pub const MOST_PIPES: usize = 32;
 pub const MOST_NODES: usize = 32;
 
 pub struct Network {

@@ -1,9 +1,9 @@
 //! Sound jobs: every kind of node and network, in figures of an engineer or in small whole ones.
 
-use super::network::{network, Network, MOST_PIPES};
+use super::network::{network, Network};
 use super::Random;
 use crate::draft::{Draft, DraftNode};
-use crate::reader::MOST_BYTES;
+use crate::reader::{MOST_BYTES, MOST_PIPES};
 
 /// A sound job.
 pub fn sound(random: &mut Random) -> Draft {

@@ -1,0 +1,44 @@
+-- `job::values::below_zero` meets its contract: a turn adds 1 for an R that is below zero. Assumes nothing.
+use Prim.Native.Nat.{_-_}
+use native.Mathlib.Omega.{arith}
+use lib.Ieee.Scale.{finite}
+use denote.Ref.{now}
+use Rattle.loops.proofs.All.{all-at}
+use Rattle.loops.proofs.Counting.{Counting, counting-none, counting-more, counting-done}
+use Rattle.job.specs.Format.{rIn}
+use Rattle.job.specs.Questions.{notBelowZero}
+use borrow.Author.Needs.{needs}
+use Rattle.job.proofs.values.below_zero.Statement.{statement}
+use Rattle.job.proofs.values.below_zero.Tie as tie
+
+abbrev Inv-loop : tie.InvT-loop
+Inv-loop friction n low₀ r₀ low r = Counting (λ r. notBelowZero (rIn friction r)) n r low
+
+abbrev μ-loop : tie.MeasureT-loop
+μ-loop friction n low₀ r₀ low r = n - r
+
+-- each R is finite
+below-zero-at-requires : tie.Need-below-zero-at-requires Inv-loop μ-loop
+below-zero-at-requires c κs =
+    let here : tie.At-loop Inv-loop μ-loop = c .before in
+    let start : tie.Start Inv-loop μ-loop = here .before .before in
+    (search needs, all-at (λ r. finite (rIn (now (start .args .friction)) r)) (here .loop .r) _ (start .pre) (omega arith))
+
+loop-again : tie.Need-loop-again Inv-loop μ-loop
+loop-again c =
+    let here : tie.At-loop Inv-loop μ-loop = c .before .before in
+    counting-more _ (here .loop .inv) (omega arith) (c .below-zero-at .ensures .1)
+
+pub below-zero-spec : {M : Type 1} → statement M
+below-zero-spec =
+    tie.close
+    (tie.spec
+    Inv-loop
+    μ-loop
+    (λ c. counting-none _)
+    below-zero-at-requires
+    (λ c. search needs)
+    (λ c. search needs)
+    (λ c. search needs)
+    loop-again
+    (λ c. counting-done _ (c .before .loop .inv) (c .loop-test .left)))

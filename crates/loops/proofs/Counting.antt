@@ -1,0 +1,47 @@
+-- A loop that adds 1 for each of 0, 1, .. that fails a test, and 0 for the others: the count is 0 exactly where the test holds of all. Assumes nothing.
+use mathlib.Core.Path.{_≡_, refl, sym, _∙_}
+use mathlib.Core.Bool.{Bool, true, false, not, _&&_, cond}
+use Prim.Native.Nat.{ℕ, _+_, _<_, _≤_}
+use native.Mathlib.Nat.{add-zero}
+use native.Mathlib.Numerals.{add-one}
+use native.Mathlib.Omega.{arith}
+use borrow.Author.Tests.{ne-eqb}
+use lib.Dec.{eqb}
+use Rattle.loops.specs.Loops.{allBelow}
+use Rattle.loops.proofs.All.{and-false}
+
+-- i of n are counted
+pub record Counting (p : ℕ → Bool) (n i count : ℕ) : Type 0 where
+  pub within : i ≤ n
+  pub few : count ≤ i
+  pub told : eqb count 0 ≡ allBelow p i
+
+and-true : (a : Bool) → a ≡ a && true
+and-true true = refl
+and-true false = refl
+
+told-more : (a b : Bool) (count : ℕ) → eqb count 0 ≡ a → eqb (count + cond b 0 1) 0 ≡ a && b
+told-more a true count e = rw (add-zero count) (e ∙ and-true a)
+told-more a false count e = ne-eqb (count + 1) 0 (λ z. omega arith) ∙ sym (and-false a)
+
+-- what is added where the failure itself is tested
+pub one-where : (failed : Bool) → _≡_ {A = ℕ} (cond failed 1 0) (cond (not failed) 0 1)
+one-where true = refl
+one-where false = refl
+
+at-most-one : (b : Bool) → cond b 0 1 ≤ 1
+at-most-one true = omega arith
+at-most-one false = omega arith
+
+module _ (p : ℕ → Bool) {n : ℕ} where
+  pub counting-none : Counting p n 0 0
+  unfolding allBelow
+  counting-none = record { within = omega arith; few = omega arith; told = refl }
+
+  pub counting-more : {i count v : ℕ} → Counting p n i count → i < n → v ≡ cond (p i) 0 1 → Counting p n (i + 1) (count + v)
+  unfolding allBelow
+  counting-more {i} {count} {v} u l e =
+      rw e (record { within = omega arith; few = omega (arith, at-most-one (p i)); told = rw (add-one i) (told-more (allBelow p i) (p i) count (u .told)) })
+
+  pub counting-done : {i count : ℕ} → Counting p n i count → n ≤ i → eqb count 0 ≡ allBelow p n
+  counting-done {i} u l = let e : n ≡ i = omega arith in rw e (u .told)

@@ -1,0 +1,114 @@
+-- The faults of a step, counted pipe by pipe: a count of several is 0 where each is, a test of all sections is a test of each pipe's in turn, and that of a
+-- pipe's is one of its ends and of those between. Assumes nothing.
+use mathlib.Core.Path.{_≡_, refl, sym, ap, ap₂, _∙_}
+use mathlib.Core.Bool.{Bool, true, false, cond, _&&_}
+use mathlib.Core.List.{List}
+use Prim.Native.Nat.{ℕ, zero, suc, _+_, _-_, _*_, _<_, _≤_}
+use native.Mathlib.Nat.{add-zero, add-suc, zero-add}
+use native.Mathlib.Numerals.{add-one}
+use native.Mathlib.Omega.{arith}
+use borrow.Author.Tests.{ne-eqb}
+use lib.Dec.{eqb}
+use lib.Ieee.{Float}
+use Rattle.loops.specs.Loops.{allBelow}
+use Rattle.job.specs.Job.{Laid}
+use Rattle.job.specs.Format.{jobOf, pipeTable, initialTable, pipeCount}
+use Rattle.job.specs.Questions.{Accepted}
+use Rattle.recurrence.specs.Step.{inputs, between}
+use Rattle.recurrence.proofs.RunLaws.{all-cong}
+use Rattle.rows.specs.Faults.{floorIn, faultAt, isSound, soundWith, counted}
+use Rattle.rows.proofs.Sound.{sound-any}
+use Rattle.ends.specs.Ends.{laidIn, LaidPipe, old, newSection}
+use Rattle.ends.specs.Spare.{endIn, EndsAt}
+use Rattle.ends.proofs.Accept.{within}
+use Rattle.march.specs.March.{newBySpare}
+use Rattle.march.proofs.Spared.{start-new, inner-new, finish-new, by-spare}
+
+-- ---- counts and tests
+
+and-assoc : (a b c : Bool) → (a && b) && c ≡ a && (b && c)
+and-assoc true b c = refl
+and-assoc false b c = refl
+
+and-swap : (a b : Bool) → a && b ≡ b && a
+and-swap true true = refl
+and-swap true false = refl
+and-swap false true = refl
+and-swap false false = refl
+
+and-true : (a : Bool) → a ≡ a && true
+and-true true = refl
+and-true false = refl
+
+zero-sum : (x y : ℕ) → eqb (x + y) 0 ≡ eqb x 0 && eqb y 0
+zero-sum zero y = rw (zero-add y)
+zero-sum (suc x) y = ne-eqb (suc x + y) 0 (λ e. omega arith) ∙ sym (ap (λ (t : Bool). t && eqb y 0) (ne-eqb (suc x) 0 (λ e. omega arith)))
+
+told : (b : Bool) → eqb (cond b 0 1) 0 ≡ b
+told true = refl
+told false = refl
+
+all-join : (p : ℕ → Bool) (a n : ℕ) → allBelow p (a + n) ≡ allBelow p a && allBelow (λ i. p (a + i)) n
+unfolding allBelow
+all-join p a zero = rw (add-zero a) (and-true (allBelow p a))
+all-join p a (suc n) = rw (add-suc a n, all-join p a n) (and-assoc (allBelow p a) (allBelow (λ i. p (a + i)) n) (p (a + n)))
+
+-- a pipe of n reaches: those between are counted by x, the start and the finish by y
+pipe-judged :
+    (q : ℕ → Bool) (n x y : ℕ) → 1 ≤ n → eqb x 0 ≡ allBelow (λ i. q (suc i)) (n - 1) → y ≡ cond (q 0) 0 1 + cond (q n) 0 1 → eqb (x + y) 0 ≡ allBelow q (n + 1)
+unfolding allBelow
+pipe-judged q n x y h ex ey =
+    let m = n - 1 in
+    let inner : Bool = allBelow (λ i. q (suc i)) m in
+    let most : allBelow q n ≡ q 0 && inner =
+    ap (allBelow q) (let e : n ≡ 1 + m = omega arith in e)
+    ∙ all-join q 1 m
+    ∙ ap (λ (t : Bool). q 0 && t) (all-cong m (λ i. q (1 + i)) (λ i. q (suc i)) (λ i k. ap q (let z : 1 + i ≡ suc i = omega arith in z))) in
+    let ends : eqb y 0 ≡ q 0 && q n = ap (λ (k : ℕ). eqb k 0) ey ∙ zero-sum (cond (q 0) 0 1) (cond (q n) 0 1) ∙ ap₂ _&&_ (told (q 0)) (told (q n)) in
+    zero-sum x y ∙ rw (ex, ends, add-one n, most) (sym (and-assoc inner (q 0) (q n)) ∙ ap (λ (t : Bool). t && q n) (and-swap inner (q 0)))
+
+-- the pipes passed so far, and one more
+pub judged-more :
+    (p : ℕ → Bool) (first n bad r : ℕ) → eqb bad 0 ≡ allBelow p first → eqb r 0 ≡ allBelow (λ i. p (first + i)) (n + 1) → eqb (bad + r) 0 ≡ allBelow p (first + n + 1)
+judged-more p first n bad r e d =
+    let s : first + n + 1 ≡ first + (n + 1) = omega arith in
+    zero-sum bad r ∙ rw (s, e, d) (sym (all-join p first (n + 1)))
+
+-- ---- the sections of a pipe whose ends stand in the spare
+
+module _ (job : List ℕ) (l : Laid) (spare : List Float) (at : ℕ) (heads flows : List Float) (some : 1 ≤ l .pipe .reaches) where
+  -- whether the section at offset i has no fault
+  abbrev soundBySpare : ℕ → Bool
+  soundBySpare i = soundWith (floorIn (initialTable job) (l .first + i)) (newBySpare job l spare at heads flows i)
+
+  judged-by-spare :
+      (x y : ℕ) → eqb x 0 ≡ allBelow (λ i. soundWith (floorIn (initialTable job) (l .first + suc i)) (between (inputs (jobOf job) 0) (old job heads flows) l i)) (l .pipe .reaches - 1)
+      → y ≡ counted (floorIn (initialTable job) (l .first)) (endIn spare at) + counted (floorIn (initialTable job) (l .first + l .pipe .reaches)) (endIn spare (at + 2))
+      → eqb (x + y) 0 ≡ allBelow soundBySpare (l .pipe .reaches + 1)
+  judged-by-spare x y ex ey =
+      let n = l .pipe .reaches in
+      pipe-judged soundBySpare n x y some
+      (ex
+      ∙ all-cong (n - 1) _ (λ i. soundBySpare (suc i))
+      (λ i k. ap (soundWith (floorIn (initialTable job) (l .first + suc i))) (inner-new job l spare at heads flows i (omega arith))))
+      (ey
+      ∙ ap₂ _+_
+      (ap₂ counted (ap (floorIn (initialTable job)) (sym (add-zero (l .first)))) (start-new job l spare at heads flows))
+      (ap (counted (floorIn (initialTable job) (l .first + n))) (finish-new job l spare at heads flows some)))
+
+-- where the spare has the ends of a step, and the walk is at the pipe's first section
+pub pipe-sound :
+    (job : List ℕ) (ok : Accepted job) (n : ℕ) (heads flows spare : List Float) (p : ℕ) (here : p < pipeCount (pipeTable job)) (l : Laid) (is : l ≡ laidIn job p)
+    → EndsAt job n heads flows spare p → {first : ℕ} → l .first ≡ first → (x y : ℕ)
+    → eqb x 0 ≡ allBelow (λ i. soundWith (floorIn (initialTable job) (l .first + suc i)) (between (inputs (jobOf job) 0) (old job heads flows) l i)) (l .pipe .reaches - 1)
+    → y ≡ counted (floorIn (initialTable job) (l .first)) (endIn spare (p * 4)) + counted (floorIn (initialTable job) (l .first + l .pipe .reaches)) (endIn spare (p * 4 + 2))
+    → eqb (x + y) 0 ≡ allBelow (λ i. isSound (faultAt (initialTable job) (newSection job n heads flows) (first + i))) (l .pipe .reaches + 1)
+unfolding faultAt
+pipe-sound job ok n heads flows spare p here l is ends e x y ex ey =
+    let laid : LaidPipe job l = record { number = p; present = here; is = is } in
+    judged-by-spare job l spare (p * 4) heads flows (within job ok l laid .joined .has-reach) x y ex ey
+    ∙ rw (← e)
+    (all-cong (l .pipe .reaches + 1) _ _
+    (λ i b.
+    ap (soundWith (floorIn (initialTable job) (l .first + i))) (by-spare job ok n heads flows spare p here l is ends i (omega arith))
+    ∙ sym (sound-any (floorIn (initialTable job) (l .first + i)) (l .first + i) (newSection job n heads flows (l .first + i)))))

@@ -1,0 +1,15 @@
+-- `march::check::check` meets its contract: where the count is 0 every section is sound, so there is no first fault. Assumes nothing.
+use mathlib.Core.Path.{sym, _∙_}
+use borrow.Author.Needs.{needs}
+use borrow.Author.Tests.{eq-eqb}
+use Rattle.rows.specs.Faults.{firstFault, foundFault}
+use Rattle.rows.proofs.Sound.{none-of-sound}
+use Rattle.march.proofs.check.check.Statement.{statement}
+use Rattle.march.proofs.check.check.Tie as tie
+
+returns : tie.Need-returns
+unfolding foundFault firstFault
+returns c = λ n e. sym (none-of-sound _ _ (sym (c .before .faults .ensures n e) ∙ eq-eqb _ _ (c .if1 .taken)))
+
+pub check-spec : {M : Type 1} → statement M
+check-spec = tie.close (tie.spec (λ c κs. search needs) returns (λ c κs. search needs) (λ c. search needs))

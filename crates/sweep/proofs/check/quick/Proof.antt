@@ -1,0 +1,168 @@
+-- `sweep::check::quick` meets its contract: each turn looks at two sections more, by the CP carried to them, and the one or two that are left are worked
+-- out after the turns. Assumes nothing.
+use mathlib.Core.Path.{_≡_, sym}
+use mathlib.Core.Bool.{true, true≢false}
+use Prim.Native.Nat.{_+_, _-_, _≤_}
+use native.Mathlib.Omega.{arith}
+use borrow.Author.Tests.{not-false}
+use lib.Dec.{T}
+use lib.ListN.{length}
+use lib.Ieee.Positive.{positive}
+use denote.Ref.{now}
+use Rattle.fields.specs.Real.{_⊞_}
+use Rattle.loops.specs.Loops.{allBelow}
+use Rattle.sweep.specs.Sweep.{twoCpAt, soundInner}
+use Rattle.sweep.proofs.Sections.{first-cp, second-cp, in-floors}
+use Rattle.sweep.proofs.Counted.{adds-first, adds-second}
+use Rattle.sweep.proofs.Clearing.{Clearing, clearing-none, two-cleared, looked, clearing-done, great64, above-zero, last-one, last-two}
+use Rattle.sweep.proofs.check.quick.Statement.{statement}
+use Rattle.sweep.proofs.check.quick.Tie as tie
+
+abbrev Inv-loop : tie.InvT-loop
+Inv-loop friction floors s heads flows w usual limit cp₀ odd₀ even₀ odd-sum₀ even-sum₀ i₀ cp odd even odd-sum even-sum i =
+    Clearing (soundInner friction floors s heads flows) (length heads - 2) i (odd + even) odd-sum even-sum
+    × (cp ≡ twoCpAt friction s heads flows i)
+    × (i + 3 ≤ length heads)
+
+abbrev μ-loop : tie.MeasureT-loop
+μ-loop friction floors s heads flows w usual limit cp₀ odd₀ even₀ odd-sum₀ even-sum₀ i₀ cp odd even odd-sum even-sum i = length heads - i
+
+abbrev start : tie.Else1 Inv-loop μ-loop → tie.Start Inv-loop μ-loop
+start c = c .before .before .before .before .before
+
+-- the turn of a section looked at
+abbrev turn : tie.After-clear-one Inv-loop μ-loop → tie.In-loop Inv-loop μ-loop
+turn c = c .before .before .before .before
+
+is-usual : (c : tie.Else1 Inv-loop μ-loop) → let s = start c .args .s in T (positive (s ⊞ s))
+is-usual c = above-zero _ great64 (not-false _ (c .if1 .left))
+
+two-cp-requires : tie.Need-two-cp-requires Inv-loop μ-loop
+two-cp-requires c κs = (start c .pre .0, omega (arith, start c .pre .2))
+
+cm-at-requires : tie.Need-cm-at-requires Inv-loop μ-loop
+cm-at-requires c κs = (start (c .before .before .before) .pre .0, omega arith)
+
+cm-at-requires-2 : tie.Need-cm-at-requires-2 Inv-loop μ-loop
+cm-at-requires-2 c κs = (start (c .before .before .before .before) .pre .0, omega arith)
+
+clear-one-requires : tie.Need-clear-one-requires Inv-loop μ-loop
+clear-one-requires c κs =
+    let here : tie.At-loop Inv-loop μ-loop = c .before .before .before .before in
+    in-floors (start (here .before .before) .pre .1) _ (omega arith)
+
+clear-one-requires-2 : tie.Need-clear-one-requires-2 Inv-loop μ-loop
+clear-one-requires-2 c κs =
+    let here : tie.At-loop Inv-loop μ-loop = c .before .before .before .before .before .before in
+    in-floors (start (here .before .before) .pre .1) _ (omega arith)
+
+two-cp-requires-2 : tie.Need-two-cp-requires-2 Inv-loop μ-loop
+two-cp-requires-2 c κs =
+    let first : tie.After-clear-one Inv-loop μ-loop = c .before .before .before .before in
+    let here : tie.At-loop Inv-loop μ-loop = turn first .before in
+    (start (here .before .before) .pre .0, omega arith)
+
+-- by how long a slice can be
+add-i : tie.Need-add-i Inv-loop μ-loop
+add-i c =
+    let first : tie.After-clear-one Inv-loop μ-loop = c .before .before .before .before .before in
+    let begun : tie.Else1 Inv-loop μ-loop = turn first .before .before .before in
+    omega (arith, turn first .loop-test .taken, start begun .good)
+
+loop-less : tie.Need-loop-less Inv-loop μ-loop
+loop-less c =
+    let first : tie.After-clear-one Inv-loop μ-loop = c .before .before .before .before .before in
+    omega (arith, turn first .loop-test .taken)
+
+loop-again : tie.Need-loop-again Inv-loop μ-loop
+loop-again c =
+    let second : tie.After-clear-one2 Inv-loop μ-loop = c .before .before .before in
+    let first : tie.After-clear-one Inv-loop μ-loop = second .before .before in
+    let below : tie.After-cm-at2 Inv-loop μ-loop = first .before .before in
+    let here : tie.At-loop Inv-loop μ-loop = turn first .before in
+    let usual = is-usual (here .before .before) in
+    let a = start (here .before .before) .args in
+    let friction = now (a .friction) in
+    let floors = now (a .floors) in
+    let heads = now (a .heads) in
+    let flows = now (a .flows) in
+    let i = here .loop .i in
+    let inv = here .loop .inv in
+    let floored = in-floors (start (here .before .before) .pre .1) in (
+      two-cleared (soundInner friction floors (a .s) heads flows) (here .loop .odd) (here .loop .even) _ _ _ _ (inv .0) (omega arith)
+          (looked friction floors (a .s) heads flows usual i (floored _ (omega arith) .1) (first-cp friction (a .s) heads flows i (inv .1)) (below .before .cm-at .ensures) (first .clear-one .ensures .1))
+          (looked friction floors (a .s) heads flows usual (i + 1) (floored _ (omega arith) .1) (second-cp friction (a .s) heads flows i (inv .1)) (below .cm-at2 .ensures) (second .clear-one2 .ensures .1)),
+      c .two-cp2 .ensures,
+      omega arith,
+    )
+
+fault-one-requires : tie.Need-fault-one-requires Inv-loop μ-loop
+fault-one-requires c κs =
+    let pre = start (c .before .before .before .before) .pre in
+    (pre .0, pre .1, omega arith)
+
+-- the sections of the turns
+passed : (c : tie.Else2 Inv-loop μ-loop) →
+    let here : tie.At-loop Inv-loop μ-loop = c .before .before in
+    let a = start (here .before .before) .args in
+    allBelow (soundInner (now (a .friction)) (now (a .floors)) (a .s) (now (a .heads)) (now (a .flows))) (here .loop .i) ≡ true
+passed c =
+    let here : tie.At-loop Inv-loop μ-loop = c .before .before in
+    clearing-done _ (here .loop .inv .0) (c .if2 .left)
+
+returns-3 : tie.Need-returns-3 Inv-loop μ-loop
+returns-3 c h =
+    let one : tie.After-fault-one Inv-loop μ-loop = c .before in
+    let here : tie.At-loop Inv-loop μ-loop = one .before .before .before in
+    let a = start (here .before .before) .args in
+    last-one _ (here .loop .i) (passed (one .before))
+    (adds-first (now (a .friction)) (now (a .floors)) (a .s) (now (a .heads)) (now (a .flows)) (here .loop .i) (here .loop .inv .1) (one .fault-one .ensures .1)) (omega arith) h
+
+fault-one-requires-2 : tie.Need-fault-one-requires-2 Inv-loop μ-loop
+fault-one-requires-2 c κs =
+    let before : tie.Else2 Inv-loop μ-loop = c .before .before in
+    let pre = start (before .before .before .before .before) .pre in
+    (pre .0, pre .1, omega arith)
+
+returns-4 : tie.Need-returns-4 Inv-loop μ-loop
+returns-4 c h =
+    let one : tie.After-fault-one Inv-loop μ-loop = c .before .before in
+    let here : tie.At-loop Inv-loop μ-loop = one .before .before .before in
+    let a = start (here .before .before) .args in
+    let inv = here .loop .inv in
+    last-two _ (here .loop .i) (passed (one .before))
+    (adds-first (now (a .friction)) (now (a .floors)) (a .s) (now (a .heads)) (now (a .flows)) (here .loop .i) (inv .1) (one .fault-one .ensures .1))
+    (adds-second (now (a .friction)) (now (a .floors)) (a .s) (now (a .heads)) (now (a .flows)) (here .loop .i) (inv .1) (c .fault-one2 .ensures .1)) (omega arith) h
+
+pub quick-spec : {M : Type 1} → statement M
+quick-spec =
+    tie.close
+    (tie.spec
+    Inv-loop
+    μ-loop
+    (λ c h. absurd (true≢false (sym h)))
+    two-cp-requires
+    (λ c. (clearing-none _ _ _, c .two-cp .ensures, omega arith))
+    (λ c. omega arith)
+    cm-at-requires
+    (λ c. omega arith)
+    cm-at-requires-2
+    clear-one-requires
+    (λ c. omega (arith, turn c .before .loop .inv .0 .few, c .clear-one .ensures .0))
+    (λ c. omega arith)
+    clear-one-requires-2
+    (λ c. omega (arith, turn (c .before .before) .before .loop .inv .0 .few, c .clear-one2 .ensures .0))
+    (λ c. omega arith)
+    two-cp-requires-2
+    add-i
+    loop-less
+    loop-again
+    (λ c. omega (arith, c .before .loop .inv .0 .few))
+    (λ c h. absurd (true≢false (sym h)))
+    fault-one-requires
+    (λ c. omega arith)
+    returns-3
+    (λ c. omega arith)
+    fault-one-requires-2
+    (λ c. omega (arith, c .before .before .fault-one .ensures .0, c .fault-one2 .ensures .0))
+    returns-4)
