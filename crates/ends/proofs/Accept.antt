@@ -9,11 +9,12 @@ use lib.Ieee.Scale.{finite}
 use borrow.Author.Tests.{ne-eqb}
 use Rattle.fields.specs.Real.{zero64}
 use Rattle.job.specs.Job.{Laid, sections, frictionAt}
-use Rattle.job.specs.Format.{jobOf, pipeTable, nodeTable, frictionTable, pipeCount, pipeIn, pipesIn, reachesOf, firstsOf, nodeCount, rIn, frictionIn}
+use Rattle.job.specs.Format.{jobOf, pipeTable, nodeTable, frictionTable, pipeCount, pipeIn, pipesIn, reachesOf, nodeCount, rIn, frictionIn}
+use Rattle.job.specs.FromTables.{firstsOf}
 use Rattle.job.specs.Questions.{Accepted, pairQuestions, firstNo, rFits}
 use Rattle.job.proofs.FirstNo.{none-refused}
-use Rattle.job.proofs.Tables.{both}
-use Rattle.job.proofs.Listed.{getD-listed}
+use Rattle.loops.proofs.Tests.{both}
+use Rattle.loops.proofs.Listed.{getD-listed}
 use Rattle.job.proofs.Laid.{pipe-at, firsts-all, reach-least, laid-firsts}
 use Rattle.job.proofs.SectionLaws.{r-fits}
 use Rattle.job.proofs.Accepted.{GoodPipe, pipe-good, pipes-length, nodes-length, pipe-limits, node-limits, section-limit, friction-fits}

@@ -11,7 +11,7 @@ use Rattle.job.specs.Job.{Laid, sections, frictionAt}
 use Rattle.job.specs.Format.{jobOf}
 use Rattle.recurrence.specs.State.{Point, pointAt, noPoint}
 use Rattle.recurrence.specs.Step.{inputs, along}
-use Rattle.recurrence.proofs.Listed.{getD-listed}
+use Rattle.loops.proofs.Listed.{getD-listed}
 use Rattle.ends.specs.Ends.{held, old, Lent}
 
 module _ (n : ℕ) (heads flows : List Float) (s : ℕ) (l : s < n) where

@@ -13,10 +13,11 @@ use Rattle.fields.specs.Real.{_⊞_, zero64}
 use Rattle.loops.proofs.Fill.{fill-cong}
 use Rattle.wave.specs.Wave.{sumFrom, sumsOf}
 use Rattle.job.specs.Job.{Laid, laid}
-use Rattle.job.specs.Format.{listed, jobOf, pipeTable, pipeCount}
+use Rattle.job.specs.Format.{jobOf, pipeTable, pipeCount}
+use Rattle.loops.specs.Loops.{listed}
 use Rattle.job.specs.Questions.{Accepted}
 use Rattle.recurrence.specs.Step.{inputs, along, kAtStart, kAtFinish, endsOf, sumsAt, headAt}
-use Rattle.recurrence.proofs.Listed.{getD-listed, listed-cong}
+use Rattle.loops.proofs.Listed.{getD-listed, listed-cong}
 use Rattle.recurrence.proofs.StepLaws.{withPipe, sum-next}
 use Rattle.ends.specs.Ends.{LaidPipe, nodeSums, old, flowSums, constantSums, overNodes, headBy, nodeHeads}
 use Rattle.ends.proofs.Order.{laid-pipe, laid-all}

@@ -8,7 +8,7 @@ use lib.ListN.{length, getElem?, take}
 use lib.Seq.{take-all}
 use Rattle.job.specs.Job.{Pipe, Laid, laidFrom, laid}
 use Rattle.job.specs.Format.{jobOf, pipeTable, pipeCount, pipeIn, pipesIn, reachesOf}
-use Rattle.job.proofs.Listed.{length-listed}
+use Rattle.loops.proofs.Listed.{length-listed}
 use Rattle.job.proofs.Laid.{laid-firsts}
 use Rattle.ends.specs.Ends.{LaidPipe}
 

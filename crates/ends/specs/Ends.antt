@@ -7,12 +7,13 @@ use lib.Dec.{eqb}
 use lib.ListN.{length, getD, replicate}
 use lib.Ieee.{Float, nan}
 use Rattle.fields.specs.Real.{zero64}
-use Rattle.loops.specs.Loops.{fill}
+use Rattle.loops.specs.Loops.{fill, listed}
 use Rattle.wave.specs.declared.HeadFlow.{HeadFlow}
 use Rattle.wave.specs.Wave.{sumFrom, startEnd, finishEnd}
 use Rattle.wave.specs.Nodes.{nodeHead}
 use Rattle.job.specs.Job.{Laid, laid, sections}
-use Rattle.job.specs.Format.{listed, jobOf, pipeTable, nodeTable, pipeCount, pipeIn, firstsOf, nodeCount}
+use Rattle.job.specs.Format.{jobOf, pipeTable, nodeTable, pipeCount, pipeIn, nodeCount}
+use Rattle.job.specs.FromTables.{firstsOf}
 use Rattle.job.specs.Questions.{Accepted}
 use Rattle.recurrence.specs.State.{State}
 use Rattle.recurrence.specs.Step.{Inputs, inputs, nodeNow, kAtStart, kAtFinish, endsOf, headAt, located, newAt, between}

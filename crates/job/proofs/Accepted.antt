@@ -8,16 +8,17 @@ use lib.ListN.{length, getElem?}
 use lib.Dec.{eqb, leb, ltb}
 use lib.Ieee.{lt}
 use lib.Ieee.Scale.{finite}
+use Rattle.fields.specs.Real.{zero64}
 use borrow.Author.Tests.{leb-true, ltb-true, eqb-true, eqb-false, not-true}
 use Rattle.loops.proofs.All.{all-at}
-use Rattle.fields.specs.Real.{zero64}
 use Rattle.job.specs.Job.{Pipe, sectionsOf, sections}
 use Rattle.job.specs.Format.{pipeTable, nodeTable, frictionTable, initialTable, scheduleTable, pipeCount, pipeIn, pipesIn, reachesOf, nodeCount, nodesIn, jobOf}
 use Rattle.job.specs.Questions.{holdsRecords, joins, pipesJoin, sectionsFit, constantFits, constantsFit, kindsFit, figuresFit, nodesMet, frictionFits, frictionRight, hasLength, initialFits, initialRight, schedulesRight, pipeQuestions, nodeQuestions, valueQuestions, firstNo, Accepted}
 use Rattle.job.specs.Asked.{NodesRight}
 use Rattle.job.proofs.FirstNo.{yes, none-refused}
-use Rattle.job.proofs.Tables.{both, PairsRight, pairs-right}
-use Rattle.job.proofs.Listed.{length-listed, listed-some}
+use Rattle.job.proofs.Tables.{PairsRight, pairs-right}
+use Rattle.loops.proofs.Tests.{both}
+use Rattle.loops.proofs.Listed.{length-listed, listed-some}
 
 -- ---- the tables: each question that was asked of them has a yes
 
@@ -157,6 +158,3 @@ module _ (job : List ℕ) (h : Accepted job) (p : ℕ) where
 
     pub accepted-reaches : 1 ≤ q .reaches
     accepted-reaches = accepted-pipe .has-reach
-
-    pub accepted-constant : (finite (q .S) ≡ true) × (lt zero64 (q .S) ≡ true)
-    accepted-constant = rw (← (found .1)) (constant-fits (found .0))

@@ -9,8 +9,9 @@ use lib.ListN.{length, getElem?, take}
 use lib.Seq.{take-all}
 use Rattle.job.specs.declared.pipes.Firsts.{Firsts}
 use Rattle.job.specs.Job.{Job, Pipe, laidFrom, laid, sectionsOf}
-use Rattle.job.specs.Format.{pipeTable, pipeCount, pipeIn, pipesIn, reachesOf, firstsOf, jobOf}
-use Rattle.job.proofs.Listed.{length-listed, at-listed}
+use Rattle.job.specs.Format.{pipeTable, pipeCount, pipeIn, pipesIn, reachesOf, jobOf}
+use Rattle.job.specs.FromTables.{firstsOf}
+use Rattle.loops.proofs.Listed.{length-listed, at-listed}
 
 -- one pipe more
 pub sections-next : (qs : List Pipe) (p : ℕ) (q : Pipe) → getElem? qs p ≡ some q → sectionsOf (take (suc p) qs) ≡ sectionsOf (take p qs) + suc (q .reaches)

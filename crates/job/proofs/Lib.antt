@@ -1,5 +1,4 @@
 pub mod Figures
-pub mod Listed
 pub mod Laid
 pub mod Places
 pub mod FirstNo

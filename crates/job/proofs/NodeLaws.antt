@@ -13,10 +13,12 @@ use Rattle.fields.specs.Real.{zero64}
 use Rattle.fields.specs.Bytes.{finiteAt}
 use Rattle.loops.proofs.All.{all-at}
 use Rattle.job.specs.Job.{ScheduledNode, entryAt}
-use Rattle.job.specs.Format.{listed, nodeCount, kindNumber, scheduleCount, aOf, bOf, cOf, placeOf, entryIn, nodeIn, nodesIn, nodeOf}
+use Rattle.job.specs.Format.{nodeCount, kindNumber, scheduleCount, aOf, bOf, cOf, placeOf, entryIn, nodeIn, nodesIn}
+use Rattle.loops.specs.Loops.{listed}
+use Rattle.job.specs.FromTables.{nodeOf}
 use Rattle.job.specs.Questions.{allFinite, figuresFitKind, figureFits, figuresFit, kindFits, kindsFit, entryFits, scheduleFits, schedulesFit, hasLength, schedulesRight}
-use Rattle.job.proofs.Tables.{both}
-use Rattle.job.proofs.Listed.{length-listed, getD-listed}
+use Rattle.loops.proofs.Tests.{both}
+use Rattle.loops.proofs.Listed.{length-listed, getD-listed}
 use Rattle.job.proofs.Places.{place-more, place-rises}
 
 -- the figures of a node whose figures are finite

@@ -9,11 +9,12 @@ use lib.Ieee.Scale.{finite}
 use Rattle.loops.specs.Loops.{allBelow}
 use Rattle.loops.proofs.All.{all-at, all-both}
 use Rattle.job.specs.Job.{Initial}
-use Rattle.job.specs.Format.{rIn, frictionIn, rOf, sectionIn, initialIn, initialOf}
+use Rattle.job.specs.Format.{rIn, frictionIn, sectionIn, initialIn}
+use Rattle.job.specs.FromTables.{rOf, initialOf}
 use Rattle.job.specs.Questions.{notBelowZero, rFits, frictionFits, finiteSection, sectionFits, initialFits}
 use Rattle.job.specs.Asked.{numbersFinite, eachFinite, noneBelowZero, sectionsFinite, notBelowFloor, noneBelowFloor}
-use Rattle.job.proofs.Tables.{both}
-use Rattle.job.proofs.Listed.{getD-listed}
+use Rattle.loops.proofs.Tests.{both}
+use Rattle.loops.proofs.Listed.{getD-listed}
 
 pub record FiniteSection (i : Initial) : Type 0 where
   pub head : finite (i .head) ≡ true

@@ -1,6 +1,6 @@
 -- Where questions 1 to 4 have a yes, each table lies within the file. Assumes nothing.
 use mathlib.Core.Path.{_≡_, refl}
-use mathlib.Core.Bool.{Bool, true, false, _&&_}
+use mathlib.Core.Bool.{true}
 use mathlib.Core.List.{List}
 use Prim.Native.Nat.{ℕ, zero, suc, _+_, _-_, _<_, _≤_}
 use native.Mathlib.Omega.{arith}
@@ -10,13 +10,10 @@ use lib.Dec.{leb}
 use borrow.Author.Tests.{leb-true, eqb-true, lt-ltb}
 use Rattle.loops.specs.Loops.{allBelow}
 use Rattle.loops.proofs.All.{all-at}
+use Rattle.loops.proofs.Tests.{both}
 use Rattle.job.specs.Format.{pairCount, pairsAsked, pairsEnd, offsetOf, lengthOf, table}
 use Rattle.job.specs.Questions.{beginOf, follows, sizeFits, pairsFit, tablesFollow, stepsFit, pairQuestions, firstNo}
 use Rattle.job.proofs.FirstNo.{yes}
-
-pub both : (a b : Bool) → a && b ≡ true → (a ≡ true) × (b ≡ true)
-both true b h = (refl, h)
-both false b h = (h, cc)
 
 pub record PairsRight (job : List ℕ) : Type 0 where
   pub size : sizeFits job ≡ true

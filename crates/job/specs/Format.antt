@@ -2,19 +2,12 @@
 use mathlib.Core.Bool.{cond}
 use mathlib.Core.List.{List, [], _∷_}
 use Prim.Native.Nat.{ℕ, zero, suc, _+_, _*_, _/_}
-use lib.ListN.{length, getD, take, drop}
+use lib.ListN.{length, take, drop}
 use lib.Dec.{ltb, eqb}
 use lib.Ieee.{Float}
-use Rattle.fields.specs.Real.{zero64}
 use Rattle.fields.specs.Bytes.{u8At, u16At, u32At, f64At}
-use Rattle.job.specs.Job.{Pipe, Kind, junction, reservoir, valve, pump, ScheduledNode, Initial, Job, sectionsOf, entryAt, withValue}
-use Rattle.wave.specs.declared.Node.{Node}
-use Rattle.job.specs.declared.pipes.Firsts.{Firsts}
-
--- f 0, f 1, .., f (n - 1)
-unfoldable pub listed : {A : Type 0} → ℕ → (ℕ → A) → List A
-listed zero f = []
-listed (suc n) f = f zero ∷ listed n (λ k. f (suc k))
+use Rattle.job.specs.Job.{Pipe, Kind, junction, reservoir, valve, pump, ScheduledNode, Initial, Job}
+use Rattle.loops.specs.Loops.{listed}
 
 -- ---- "u16 count of pairs, u32 steps for the listing, then pairs (u32 offset, u32 length), sorted by offset"
 
@@ -75,10 +68,6 @@ unfoldable pub reachesOf : List Pipe → ℕ
 reachesOf [] = 0
 reachesOf (q ∷ qs) = q .reaches + reachesOf qs
 
--- the first section and the first reach of pipe p, counted through all pipes, as `laid` has them
-unfoldable pub firstsOf : List ℕ → ℕ → Firsts
-firstsOf pipes p = record { section = sectionsOf (take p (pipesIn pipes)); reach = reachesOf (take p (pipesIn pipes)) }
-
 -- ---- "2. Nodes, 26 bytes: u8 kind, u8 schedule count, f64 a, b, c."
 
 abbrev pub nodeCount : List ℕ → ℕ
@@ -116,10 +105,6 @@ rIn friction r = f64At friction (r * 8)
 unfoldable pub frictionIn : List ℕ → List Float
 frictionIn friction = listed (length friction / 8) (rIn friction)
 
--- R of a reach, as `frictionAt` has it of the job
-abbrev pub rOf : List ℕ → ℕ → Float
-rOf friction r = getD (frictionIn friction) r zero64
-
 -- ---- "4. Per section, numbered through all pipes from 0: f64 head, flow, floor head."
 
 abbrev pub sectionIn : List ℕ → ℕ → Initial
@@ -128,10 +113,6 @@ sectionIn initial s =
 
 unfoldable pub initialIn : List ℕ → List Initial
 initialIn initial = listed (length initial / 24) (sectionIn initial)
-
--- of a section, as `initialAt` has it of the job
-abbrev pub initialOf : List ℕ → ℕ → Initial
-initialOf initial s = getD (initialIn initial) s record { head = zero64; flow = zero64; floor = zero64 }
 
 -- ---- "5. f64 schedules, in node order, end to end."
 
@@ -149,14 +130,6 @@ nodeIn nodes schedules y =
 
 unfoldable pub nodesIn : List ℕ → List ℕ → List ScheduledNode
 nodesIn nodes schedules = listed (nodeCount nodes) (nodeIn nodes schedules)
-
--- a node, as `nodeAt` has it of the job
-abbrev pub nodeOf : List ℕ → List ℕ → ℕ → ScheduledNode
-nodeOf nodes schedules y = getD (nodesIn nodes schedules) y record { kind = junction; schedule = [] }
-
--- a node with its value at step n, as the solver takes it
-abbrev pub nodeAtStep : List ℕ → List ℕ → ℕ → ℕ → Node
-nodeAtStep nodes schedules y n = withValue (nodeOf nodes schedules y .kind) (entryAt (nodeOf nodes schedules y .schedule) n)
 
 -- ---- the job that the bytes hold
 

@@ -4,8 +4,8 @@ ghost use mathlib.Core.Bool.{true};
 ghost use Prim.Native.Nat.{_+_, _-_, _*_, _<_, _≤_, min};
 ghost use lib.ListN.{length};
 ghost use Rattle.fields.specs.Bytes.{f64At, finiteAt};
-ghost use Rattle.job.specs.Format.{pipeCount, pipeIn, nodeCount, kindNumber, scheduleCount, kindIn};
-ghost use Rattle.job.specs.Format.{placeOf, nodeOf, nodeAtStep};
+ghost use Rattle.job.specs.Format.{pipeCount, pipeIn, nodeCount, kindNumber, scheduleCount, kindIn, placeOf};
+ghost use Rattle.job.specs.FromTables.{nodeOf, nodeAtStep};
 ghost use Rattle.job.specs.Job.{entryAt, withValue};
 ghost use Rattle.job.specs.Asked.{NodesRight};
 ghost use Rattle.job.specs.Questions.{notBelowZero, kindFits, kindsFit, allFinite, hasNoFigures};
@@ -48,7 +48,7 @@ fn entry_index(count: usize, step: usize) -> usize
 }
 
 // v of node y at a step, counted from 1: its schedule begins at `place`.
-pub fn value_at(nodes: &[u8], schedules: &[u8], y: usize, place: usize, step: usize) -> f64
+fn value_at(nodes: &[u8], schedules: &[u8], y: usize, place: usize, step: usize) -> f64
     requires { ⌜ (NodesRight (now nodes) (now schedules)) × (y < nodeCount (now nodes))
         × (place ≡ placeOf (now nodes) y) × (1 ≤ step) ⌝ }
     ensures { λ r. ⌜ r ≡ entryAt (nodeOf (now (nodes .entry)) (now (schedules .entry)) y .schedule) step ⌝ }
@@ -58,7 +58,7 @@ pub fn value_at(nodes: &[u8], schedules: &[u8], y: usize, place: usize, step: us
 }
 
 // Node y with its figures and the value v.
-pub fn node_with(nodes: &[u8], y: usize, v: f64) -> Node
+fn node_with(nodes: &[u8], y: usize, v: f64) -> Node
     requires { ⌜ (figuresFit (now nodes) ≡ true) × (y < nodeCount (now nodes)) ⌝ }
     ensures { λ r. ⌜ r ≡ withValue (kindIn (now (nodes .entry)) y) v ⌝ }
 {

@@ -6,7 +6,8 @@ ghost use Prim.Native.Nat.{_+_, _*_, _<_, _≤_};
 ghost use lib.ListN.{length};
 ghost use lib.Ieee.Scale.{finite};
 ghost use Rattle.job.specs.Job.{sectionsOf};
-ghost use Rattle.job.specs.Format.{pipeCount, pipeIn, pipesIn, reachesOf, firstsOf};
+ghost use Rattle.job.specs.Format.{pipeCount, pipeIn, pipesIn, reachesOf};
+ghost use Rattle.job.specs.FromTables.{firstsOf};
 ghost use Rattle.job.specs.Questions.{holdsRecords, joins, pipesJoin, sectionsFit, constantFits, constantsFit};
 ghost use Rattle.job.specs.Questions.{pairQuestions, pipeQuestions, firstNo};
 
@@ -50,7 +51,7 @@ pub fn constant(pipes: &[u8], p: usize) -> f64
 }
 
 // The firsts of pipe p + 1, from those of pipe p. No pipe has more than 65,536 sections, whatever its bytes.
-pub fn next_firsts(pipes: &[u8], p: usize, at: Firsts) -> Firsts
+fn next_firsts(pipes: &[u8], p: usize, at: Firsts) -> Firsts
     requires { ⌜ (at ≡ firstsOf (now pipes) p) × (at .section ≤ p * 65536)
         × (p < pipeCount (now pipes)) × (length (now pipes) ≤ 32768) ⌝ }
     ensures { λ r. ⌜ (r ≡ firstsOf (now (pipes .entry)) (p + 1)) × (r .section ≤ (p + 1) * 65536) ⌝ }
@@ -99,7 +100,7 @@ pub fn section_count(pipes: &[u8]) -> usize
 }
 
 // Is the table one of whole records, low to high of them?
-pub fn holds_records(t: &[u8], width: usize, low: usize, high: usize) -> bool
+fn holds_records(t: &[u8], width: usize, low: usize, high: usize) -> bool
     requires { ⌜ 0 < width ⌝ }
     ensures { λ r. ⌜ r ≡ holdsRecords width low high (now (t .entry)) ⌝ }
 {

@@ -6,7 +6,8 @@ ghost use lib.ListN.{length};
 ghost use lib.Dec.{eqb};
 ghost use lib.Ieee.Scale.{finite};
 ghost use Rattle.loops.specs.Loops.{allBelow};
-ghost use Rattle.job.specs.Format.{nodeCount, rIn, rOf, sectionIn, initialOf, placeOf, entryIn};
+ghost use Rattle.job.specs.Format.{nodeCount, rIn, sectionIn, placeOf, entryIn};
+ghost use Rattle.job.specs.FromTables.{rOf, initialOf};
 ghost use Rattle.job.specs.Questions.{notBelowZero, frictionFits, frictionRight, finiteSection};
 ghost use Rattle.job.specs.Questions.{initialFits, initialRight, entryFits, schedulesFit, schedulesRight};
 ghost use Rattle.job.specs.Questions.{pairQuestions, valueQuestions, firstNo};
@@ -34,13 +35,6 @@ pub fn flow_at(initial: &[u8], s: usize) -> f64
     ensures { λ x. ⌜ x ≡ initialOf (now (initial .entry)) s .flow ⌝ }
 {
     fields::f64_at(initial, s * 24 + 8)
-}
-
-pub fn floor_at(initial: &[u8], s: usize) -> f64
-    requires { ⌜ (initialFits (now initial) ≡ true) × (s < length (now initial) / 24) ⌝ }
-    ensures { λ x. ⌜ x ≡ initialOf (now (initial .entry)) s .floor ⌝ }
-{
-    fields::f64_at(initial, s * 24 + 16)
 }
 
 // How many of the first n numbers of a table are not finite. They are counted, here and below, so that the

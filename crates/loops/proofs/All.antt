@@ -1,8 +1,8 @@
 -- A loop that asks a test of 0, 1, .., and stops at the first that fails it: whether `p` holds of every number below n.
 -- In a loop:  all-none, all-more   what has passed so far;  all-stop   the answer where one fails
--- Of the answer:  all-at, all-of;  all-both   of two tests
+-- Of the answer:  all-at, all-of;  all-both   of two tests;  all-cong   of tests that agree
 -- Assumes nothing.
-use mathlib.Core.Path.{_≡_, refl, sym, _∙_}
+use mathlib.Core.Path.{_≡_, refl, sym, ap₂, _∙_}
 use mathlib.Core.Logic.{⊎-elim}
 use mathlib.Core.Bool.{Bool, true, false, _&&_}
 use Prim.Native.Nat.{ℕ, zero, suc, _+_, _<_, _≤_}
@@ -10,18 +10,7 @@ use native.Mathlib.Nat.{le-of-suc-le-suc, not-suc-le-zero, eq-or-lt-of-le}
 use native.Mathlib.Numerals.{add-one}
 use native.Mathlib.Omega.{arith}
 use Rattle.loops.specs.Loops.{allBelow}
-
-pub and-false : (a : Bool) → a && false ≡ false
-and-false true = refl
-and-false false = refl
-
-and-left : (a b : Bool) → a && b ≡ true → a ≡ true
-and-left true b h = refl
-and-left false b h = h
-
-and-right : (a b : Bool) → a && b ≡ true → b ≡ true
-and-right true b h = h
-and-right false b h = cc
+use Rattle.loops.proofs.Tests.{and-false, both}
 
 and-swap : (a b c d : Bool) → (a && b) && (c && d) ≡ (a && c) && (b && d)
 and-swap true true c d = refl
@@ -32,6 +21,11 @@ pub all-both : (p q : ℕ → Bool) (n : ℕ) → allBelow (λ i. p i && q i) n 
 unfolding allBelow
 all-both p q zero = refl
 all-both p q (suc n) = rw (all-both p q n) (and-swap (allBelow p n) (allBelow q n) (p n) (q n))
+
+pub all-cong : (n : ℕ) (p q : ℕ → Bool) → ((s : ℕ) → s < n → p s ≡ q s) → allBelow p n ≡ allBelow q n
+unfolding allBelow
+all-cong zero p q h = refl
+all-cong (suc n) p q h = ap₂ _&&_ (all-cong n p q (λ s l. h s (omega arith))) (h n (omega arith))
 
 module _ (p : ℕ → Bool) where
   pub all-none : allBelow p 0 ≡ true
@@ -52,7 +46,7 @@ module _ (p : ℕ → Bool) where
   unfolding allBelow
   all-at i zero h l = absurd (not-suc-le-zero l)
   all-at i (suc n) h l =
-      ⊎-elim (λ q. rw q (and-right (allBelow p n) (p n) h)) (λ o. all-at i n (and-left (allBelow p n) (p n) h) o) (eq-or-lt-of-le (le-of-suc-le-suc l))
+      ⊎-elim (λ q. rw q (both (allBelow p n) (p n) h .1)) (λ o. all-at i n (both (allBelow p n) (p n) h .0) o) (eq-or-lt-of-le (le-of-suc-le-suc l))
 
   pub all-of : (n : ℕ) → ((i : ℕ) → i < n → p i ≡ true) → allBelow p n ≡ true
   unfolding allBelow

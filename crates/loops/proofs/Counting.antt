@@ -8,7 +8,7 @@ use native.Mathlib.Omega.{arith}
 use borrow.Author.Tests.{ne-eqb}
 use lib.Dec.{eqb}
 use Rattle.loops.specs.Loops.{allBelow}
-use Rattle.loops.proofs.All.{and-false}
+use Rattle.loops.proofs.Tests.{and-false}
 
 -- i of n are counted
 pub record Counting (p : ℕ → Bool) (n i count : ℕ) : Type 0 where

@@ -16,7 +16,7 @@ use native.Mathlib.Numerals.{add-one}
 use native.Mathlib.Omega.{arith}
 use Rattle.loops.specs.Loops.{fill}
 use lib.ListN.{length, getD, set, take, drop, length-set, length-drop, take-append-drop}
-use lib.Seq.{getD-set-same, getD-set-other, ext-getD, take-set-le, drop-set-lt, set-append-left, length-take-le, getD-take}
+use lib.Seq.{getD-set-same, getD-set-other, drop-set-lt, set-append-left, length-take-le}
 
 module _ {A : Type 0} (f : ℕ → A) (l : List A) (at : ℕ) where
   pub fill-none : l ≡ fill f l at 0
@@ -51,31 +51,10 @@ module _ {A : Type 0} (f : ℕ → A) (l : List A) (at : ℕ) where
       (λ o. getD-set-other (fill f l at n) (at + n) (at + k) (f n) d (λ e. omega arith) ∙ fill-in d n k (omega arith) o)
       (eq-or-lt-of-le (le-of-suc-le-suc h))
 
-  pub take-fill : (n m : ℕ) → m ≤ at → take m (fill f l at n) ≡ take m l
-  unfolding fill
-  take-fill zero m h = refl
-  take-fill (suc n) m h = take-set-le m (fill f l at n) (at + n) (f n) (omega arith) ∙ take-fill n m h
-
   pub drop-fill : (n m : ℕ) → at + n ≤ m → drop m (fill f l at n) ≡ drop m l
   unfolding fill
   drop-fill zero m h = refl
   drop-fill (suc n) m h = drop-set-lt m (fill f l at n) (at + n) (f n) (omega arith) ∙ drop-fill n m (omega arith)
-
--- new is old with n entries from `at` on replaced by f 0, f 1, ..
-pub record Filled {A : Type 0} (d : A) (f : ℕ → A) (old : List A) (at n : ℕ) (new : List A) : Type 0 where
-  pub size : length new ≡ length old
-  pub inside : (k : ℕ) → k < n → getD new (at + k) d ≡ f k
-  pub before : (k : ℕ) → k < at → getD new k d ≡ getD old k d
-  pub after : (k : ℕ) → at + n ≤ k → getD new k d ≡ getD old k d
-
-pub filled : {A : Type 0} (d : A) (f : ℕ → A) (old : List A) (at n : ℕ) {new : List A} → at + n ≤ length old → new ≡ fill f old at n → Filled d f old at n new
-filled d f old at n b e =
-    rw e (record {
-      size = length-fill f old at n;
-      inside = λ k h. fill-in f old at d n k b h;
-      before = λ k h. fill-below f old at d n k h;
-      after = λ k h. fill-above f old at d n k h;
-    })
 
 -- The invariant of such a loop: i of n entries are stored.
 pub record Upto {A : Type 0} (f : ℕ → A) (old : List A) (at n i : ℕ) (new : List A) : Type 0 where
@@ -93,10 +72,6 @@ module _ {A : Type 0} {f : ℕ → A} {old : List A} {at n : ℕ} where
 
   pub upto-done : {i : ℕ} {new : List A} → Upto f old at n i new → n ≤ i → new ≡ fill f old at n
   upto-done {i} {new} u l = let e : n ≡ i = omega arith in rw e (u .stored)
-
-  -- what is not stored yet is the old entry
-  pub upto-read : {i : ℕ} {new : List A} → Upto f old at n i new → (d : A) (j : ℕ) → at + i ≤ j → getD new j d ≡ getD old j d
-  upto-read {i} {new} u d j h = rw (u .stored) (fill-above f old at d i j h)
 
 -- ---- several fills
 
@@ -119,45 +94,9 @@ module _ {A : Type 0} (f : ℕ → A) where
   fill-front l at zero = let e : at + 0 ≡ at = omega arith in rw e
   fill-front l at (suc n) = let e : at + 1 + n ≡ at + suc n = omega arith in rw (fill-front l at n, e)
 
-  -- f a and f (a + 1), side by side
-  pub fill-two : (l : List A) (a : ℕ) {at j k : ℕ} {v w : A} → j ≡ at → k ≡ at + 1 → v ≡ f a → w ≡ f (suc a) → set (set l j v) k w ≡ fill (λ i. f (a + i)) l at 2
-  fill-two l a {at} p q e d =
-      let g : ℕ → A = λ i. f (a + i) in
-      fill-step g l at (fill-step g l at (fill-none g l at) (omega arith) (rw (add-zero a) e)) q (rw (add-one a) d)
-
-  -- a of n entries are stored, and then k more
-  pub upto-more :
-      {old new w : List A} {at n a : ℕ} (k : ℕ) → Upto f old at n a new → a + k ≤ n → w ≡ fill (λ i. f (a + i)) new (at + a) k → Upto f old at n (a + k) w
-  upto-more {old} {new} {w} {at} {n} {a} k u l e =
-      record {
-        within = l;
-        long = ap length e ∙ length-fill (λ i. f (a + i)) new (at + a) k ∙ u .long;
-        stored = e ∙ rw (u .stored) (fill-join old at a k);
-      }
-
-  -- a turn of a loop that begins with i at a
-  pub upto-from :
-      (a : ℕ) {old : List A} {at n i j : ℕ} {v : A} {new : List A}
-      → a ≤ i → Upto (λ k. f (a + k)) old at n (i - a) new → i - a < n → j ≡ at + (i - a) → v ≡ f i
-      → Upto (λ k. f (a + k)) old at n (i + 1 - a) (set new j v)
-  upto-from a {i = i} h u l p e =
-      let s : i + 1 - a ≡ i - a + 1 = omega arith in
-      let t : a + (i - a) ≡ i = omega arith in
-      rw s (upto-step u l p (rw t e))
-
 -- ---- lists put together
 
 module _ {A : Type 0} where
-  -- the entries of xs stored from the first on, and then what stood there
-  pub fill-list : (d : A) (f : ℕ → A) (l xs : List A) → length xs ≤ length l → ((i : ℕ) → i < length xs → f i ≡ getD xs i d) → fill f l 0 (length xs) ≡ xs ++ drop (length xs) l
-  fill-list d f l xs long e =
-      let n = length xs in
-      let w = fill f l 0 n in
-      let cut : length (take n w) ≡ n = length-take-le n w (rw (length-fill f l 0 n) long) in
-      let at : (i : ℕ) → i < n → getD w i d ≡ f i = λ i h. rw (zero-add i) at (fill-in f l 0 d n i (omega arith) h) in
-      let front : take n w ≡ xs = ext-getD d (take n w) xs cut (λ i h. let k : i < n = omega arith in getD-take n w i d k ∙ at i k ∙ e i k) in
-      sym (take-append-drop n w) ∙ rw (front, drop-fill f l 0 n n (omega arith))
-
   -- a store within the middle one of three lists
   set-middle : (xs ys zs : List A) (i : ℕ) (v : A) → i < length ys → xs ++ (set ys i v ++ zs) ≡ set (xs ++ (ys ++ zs)) (length xs + i) v
   set-middle [] ys zs i v h = rw (zero-add i) (sym (set-append-left ys zs i v h))

@@ -1,7 +1,7 @@
+pub mod Tests
+pub mod Listed
 pub mod Within
 pub mod Fill
 pub mod All
 pub mod First
-pub mod Fold
-pub mod Iter
 pub mod Counting

@@ -1,8 +1,13 @@
--- What a loop computes, for any element type and any function. Definitions only; their laws are in proofs/, a file for each.
+-- Lists given by a function, and what a loop computes, for any element type and any function. Definitions only; their laws are in proofs/, a file for each.
 use mathlib.Core.Bool.{Bool, true, _&&_}
-use mathlib.Core.List.{List}
+use mathlib.Core.List.{List, [], _∷_}
 use Prim.Native.Nat.{ℕ, zero, suc, _+_}
 use lib.ListN.{set}
+
+-- f 0, f 1, .., f (n - 1)
+unfoldable pub listed : {A : Type 0} → ℕ → (ℕ → A) → List A
+listed zero f = []
+listed (suc n) f = f zero ∷ listed n (λ k. f (suc k))
 
 -- the list l with f 0, f 1, .., f (n - 1) stored at `at`, at + 1, ..
 unfoldable pub fill : {A : Type 0} → (ℕ → A) → List A → ℕ → ℕ → List A
@@ -18,13 +23,3 @@ allBelow p (suc n) = allBelow p n && p n
 unfoldable pub firstBelow : {R : Type 0} → (R → R → R) → R → (ℕ → R) → ℕ → R
 firstBelow pick none v zero = none
 firstBelow pick none v (suc n) = pick (firstBelow pick none v n) (v n)
-
--- s put through f 0, f 1, .., f (n - 1)
-unfoldable pub foldUp : {S : Type 0} → (ℕ → S → S) → S → ℕ → S
-foldUp f s zero = s
-foldUp f s (suc n) = f n (foldUp f s n)
-
--- s put through f, n times
-unfoldable pub iter : {S : Type 0} → (S → S) → S → ℕ → S
-iter f s zero = s
-iter f s (suc n) = f (iter f s n)

@@ -14,7 +14,7 @@ use Rattle.job.specs.Job.{Laid, sections}
 use Rattle.job.specs.Format.{jobOf, frictionTable, initialTable}
 use Rattle.job.proofs.Accepted.{initial-length, initial-fits}
 use Rattle.recurrence.specs.Step.{inputs, between}
-use Rattle.recurrence.proofs.RunLaws.{all-cong}
+use Rattle.loops.proofs.All.{all-cong}
 use Rattle.rows.specs.Faults.{floorIn, soundWith}
 use Rattle.sweep.specs.Sweep.{innerAt, soundInner, CutToPipe, Floored}
 use Rattle.sweep.proofs.Parts.{part-length, part-at, r-part, r-part-finite, floor-part, floored-part}

@@ -15,7 +15,7 @@ use Rattle.job.specs.Job.{Laid}
 use Rattle.job.specs.Format.{jobOf, pipeTable, initialTable, pipeCount}
 use Rattle.job.specs.Questions.{Accepted}
 use Rattle.recurrence.specs.Step.{inputs, between}
-use Rattle.recurrence.proofs.RunLaws.{all-cong}
+use Rattle.loops.proofs.All.{all-cong}
 use Rattle.rows.specs.Faults.{floorIn, faultAt, isSound, soundWith, counted}
 use Rattle.rows.proofs.Sound.{sound-any}
 use Rattle.ends.specs.Ends.{laidIn, LaidPipe, old, newSection}

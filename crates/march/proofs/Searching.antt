@@ -12,7 +12,7 @@ use Rattle.job.specs.Job.{Laid}
 use Rattle.job.specs.Format.{pipeTable, initialTable, pipeCount}
 use Rattle.job.specs.Questions.{Accepted}
 use Rattle.recurrence.specs.Scan.{Fault, none, fault, earlier}
-use Rattle.recurrence.proofs.RunLaws.{first-cong}
+use Rattle.loops.proofs.First.{first-cong}
 use Rattle.rows.specs.Faults.{floorIn, faultWith, faultAt}
 use Rattle.ends.specs.Ends.{laidIn, newSection}
 use Rattle.ends.specs.Spare.{EndsAt}

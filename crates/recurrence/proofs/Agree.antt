@@ -8,7 +8,7 @@ use Rattle.job.specs.Job.{Job, Laid, laid, laidFrom, sections, sectionsOf, fric
 use Rattle.recurrence.specs.State.{State, pointAt, noPoint, startPoint, startState}
 use Rattle.recurrence.specs.Step.{inputs, nodeNow, newPoint, advanced}
 use Rattle.recurrence.specs.Paths.{EndAt, Beside}
-use Rattle.recurrence.proofs.Listed.{getD-listed-cong, listed-cong}
+use Rattle.loops.proofs.Listed.{getD-listed-cong, listed-cong}
 use Rattle.recurrence.proofs.Cone.{Local, point-alike}
 use Rattle.recurrence.proofs.Runs.{Reached, finished-advanced}
 

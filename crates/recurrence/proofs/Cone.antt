@@ -13,7 +13,7 @@ use Rattle.job.specs.Job.{Laid}
 use Rattle.recurrence.specs.State.{State, pointAt}
 use Rattle.recurrence.specs.Step.{Inputs, along, cpAfter, cmBefore, kAtFinish, kAtStart, endsOf, sumsAt, headAt, located, Place, place, nowhere, atFinish, atStart, between, newIn, newAt, newPoint}
 use Rattle.recurrence.specs.Paths.{EndAt, startsAt, finishesAt, Beside, down, up}
-use Rattle.recurrence.proofs.Tests.{cond-cong}
+use Rattle.loops.proofs.Tests.{cond-cong}
 use Rattle.recurrence.proofs.Laying.{Found, FoundAt, located-found}
 
 -- What two steps over one layout have alike, of what the sections of `near` read.

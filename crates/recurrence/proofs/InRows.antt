@@ -5,9 +5,8 @@ use Prim.Native.Nat.{ℕ, _<_}
 use Rattle.job.specs.Job.{sections, sectionsOf}
 use Rattle.job.specs.Format.{jobOf}
 use Rattle.recurrence.specs.State.{pointAt}
-use Rattle.recurrence.specs.Run.{Call, played}
+use Rattle.recurrence.specs.Run.{Call, played, stepsDone}
 use Rattle.recurrence.specs.Calls.{Rows, pointIn}
-use Rattle.recurrence.specs.Demand.{BothDone}
 use Rattle.recurrence.specs.Lent.{LentCall, heldBy, callOf, Demand3InRows}
 use Rattle.recurrence.proofs.Runs.{played-counts}
 use Rattle.recurrence.proofs.Theorem.{demand-3}
@@ -22,9 +21,11 @@ entry job lent cs ds f s l = holds-point (jobOf job) (heldBy job lent cs .rows) 
 module _ (a b : List ℕ) (lentA lentB : Rows) (callsA callsB : List LentCall) (cs : List Call)
     (fa : Follows a (heldBy a lentA callsA) (played (jobOf a) cs)) (fb : Follows b (heldBy b lentB callsB) (played (jobOf b) cs))
     (sections-same : sections (jobOf a) ≡ sections (jobOf b)) where
-  both-done : (m : ℕ) → heldBy a lentA callsA .done ≡ m → heldBy b lentB callsB .done ≡ m → BothDone (jobOf a) (jobOf b) cs m
-  both-done m ea eb =
-      record { left = sym (fa .done ∙ played-counts (jobOf a) cs) ∙ ea; right = sym (fb .done ∙ played-counts (jobOf b) cs) ∙ eb }
+  done-a : heldBy a lentA callsA .done ≡ stepsDone (jobOf a) cs
+  done-a = fa .done ∙ played-counts (jobOf a) cs
+
+  done-b : heldBy b lentB callsB .done ≡ stepsDone (jobOf b) cs
+  done-b = fb .done ∙ played-counts (jobOf b) cs
 
   in-rows : (s : ℕ) → s < sections (jobOf a) → pointAt (played (jobOf a) cs .state) s ≡ pointAt (played (jobOf b) cs .state) s
       → pointIn (heldBy a lentA callsA .rows) s ≡ pointIn (heldBy b lentB callsB .rows) s
@@ -37,10 +38,12 @@ demand-3-in-rows a b lentA lentB sa sb x k pos al be callsA callsB same chA chB 
     let wa = calls-follow a lentA sa callsA chA in
     let wb = rw (← same) at (calls-follow b lentB sb callsB chB) in
     let c = demand-3 a b (begun a lentA sa .accepted) (begun b lentB sb .accepted) x k pos al be cs in
-    let done = both-done a b lentA lentB callsA callsB cs (wa .0) (wb .0) (ap sectionsOf (al .pipes)) in
-    let rows = in-rows a b lentA lentB callsA callsB cs (wa .0) (wb .0) (ap sectionsOf (al .pipes)) in
+    let pipes = ap sectionsOf (al .pipes) in
+    let da = done-a a b lentA lentB callsA callsB cs (wa .0) (wb .0) pipes in
+    let db = done-b a b lentA lentB callsA callsB cs (wa .0) (wb .0) pipes in
+    let rows = in-rows a b lentA lentB callsA callsB cs (wa .0) (wb .0) pipes in
     record {
-      near = λ m d s ea eb l off h. rows s l (c .near m d s (done m ea eb) l off h);
-      apart = λ m s ea eb l off. rows s l (c .apart m s (done m ea eb) l off);
+      near = λ d s e l off h. rows s l (c .near d s (sym da ∙ e ∙ db) l off (rw da at h));
+      apart = λ s e l off. rows s l (c .apart s (sym da ∙ e ∙ db) l off);
       stops = λ i cause m s h. rw (wa .1, wb .1) (c .stops i cause m s h);
     }

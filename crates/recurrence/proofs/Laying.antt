@@ -4,14 +4,13 @@ use mathlib.Core.Bool.{Bool, true, false, cond, _&&_}
 use mathlib.Core.List.{List, [], _∷_}
 use mathlib.Core.Option.{some}
 use Prim.Native.Nat.{ℕ, zero, suc, _+_, _-_, _≤_, _<_}
-use native.Mathlib.Decide.{decLt}
 use native.Mathlib.Omega.{arith}
 use lib.Dec.{leb}
 use lib.ListN.{getElem?}
 use borrow.Author.Tests.{leb-true, le-leb, lt-leb}
 use Rattle.job.specs.Job.{Job, Pipe, Laid, laidFrom, laid, sectionsOf, sections}
 use Rattle.recurrence.specs.Step.{Place, place, nowhere, located}
-use Rattle.recurrence.proofs.Tests.{both}
+use Rattle.loops.proofs.Tests.{both}
 
 -- section s stands at offset i of the laid pipe l
 pub record Found (ls : List Laid) (s : ℕ) (l : Laid) (i : ℕ) : Type 0 where
@@ -95,22 +94,3 @@ module _ (j : Job) where
   laid-below p l e = let h = spanned 0 0 (j .pipes) p l e in omega arith
 
 -- ---- and each section stands in a laid pipe
-
-stands-from : (b r : ℕ) (qs : List Pipe) (s : ℕ) → b ≤ s → s < b + sectionsOf qs → (l : Laid) × (i : ℕ) × Found (laidFrom b r qs) s l i
-unfolding laidFrom sectionsOf
-stands-from b r [] s lo hi = absurd (omega arith)
-stands-from b r (q ∷ qs) s lo hi = go (decLt s (b + suc (q .reaches))) (λ lo′ hi′. stands-from (b + suc (q .reaches)) (r + q .reaches) qs s lo′ hi′)
-  where
-    go : Dec (s < b + suc (q .reaches))
-        → (b + suc (q .reaches) ≤ s → s < b + suc (q .reaches) + sectionsOf qs → (l : Laid) × (i : ℕ) × Found (laidFrom (b + suc (q .reaches)) (r + q .reaches) qs) s l i)
-        → (l : Laid) × (i : ℕ) × Found (laidFrom b r (q ∷ qs)) s l i
-    go (yes h) k =
-        (record { pipe = q; first = b; reach = r }, s - b, record { number = 0; listed = refl; stands = omega arith; within = omega arith })
-    go (no h) k =
-        let w = k (omega arith) (omega arith) in
-        let f = w .2 in
-        (w .0, w .1, record { number = suc (f .number); listed = f .listed; stands = f .stands; within = f .within })
-
-pub section-stands : (j : Job) (s : ℕ) → s < sections j → (l : Laid) × (i : ℕ) × Found (laid j) s l i
-unfolding laid sections
-section-stands j s h = stands-from 0 0 (j .pipes) s (omega arith) (omega arith)

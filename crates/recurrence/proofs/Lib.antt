@@ -1,8 +1,7 @@
-pub mod Tests
-pub mod Listed
+pub mod Opened
 pub mod EachRow
+pub mod Figures
 pub mod Laying
-pub mod Acceptance
 pub mod Cone
 pub mod Runs
 pub mod Agree
@@ -10,8 +9,7 @@ pub mod Stops
 pub mod Theorem
 pub mod Tied
 pub mod InRows
-pub mod Opened
-pub mod Figures
+pub mod Continued
 pub mod Sharp
 pub mod SameBits
 pub mod RowLaws

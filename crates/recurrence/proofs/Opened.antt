@@ -1,14 +1,15 @@
 -- All definitions that a figure computes through: `unfolding opened` opens each of them. Assumes nothing.
 use lib.Ieee.{ofBits, toBits, ofInt, add, sub, mul, div, neg, lt, eq}
 use Rattle.fields.specs.Bytes.{u64At, f64At, zeroBitsAt}
-use Rattle.loops.specs.Loops.{allBelow, firstBelow}
+use Rattle.loops.specs.Loops.{allBelow, firstBelow, listed}
 use Rattle.root.specs.Root.{rootOf}
 use Rattle.wave.specs.Wave.{magnitude, fromAbove, fromBelow, inner, finishK, startK, finishEnd, startEnd, sumFrom, sumsOf}
 use Rattle.wave.specs.Nodes.{rooted, valveW, valveY, orificeArgument, orificeRate, orificeFlow, valveFlow, pumpH, pumpY, pumpArgument, liftFlow, pumpFlow, headLess, headMore, judged, nodeHead}
 use Rattle.job.specs.Job.{laidFrom, laid, sectionsOf, sections, frictionAt, nodeAt, initialAt, floorAt, entryAt, scheduled, withValue}
-use Rattle.job.specs.Format.{listed, table, pipesIn, reachesOf, kindIn, frictionIn, initialIn, placeOf, nodeIn, nodesIn, jobOf}
+use Rattle.job.specs.Format.{table, pipesIn, reachesOf, kindIn, frictionIn, initialIn, placeOf, nodeIn, nodesIn, jobOf}
 use Rattle.job.specs.Questions.{sizeFits, pairsFit, follows, tablesFollow, stepsFit, holdsRecords, joins, pipesJoin, sectionsFit, constantFits, constantsFit, kindFits, kindsFit, allFinite, hasNoFigures, valveFits, pumpFits, figuresFitKind, figureFits, figuresFit, endsAt, hasEnd, nodesMet, rFits, frictionFits, frictionRight, finiteSection, sectionFits, initialFits, initialRight, entryFits, scheduleFits, schedulesFit, schedulesRight, pairQuestions, pipeQuestions, nodeQuestions, valueQuestions, questions, firstNo, refusal}
-use Rattle.job.proofs.Figures.{jobQ, jobOfAllKinds}
+use Rattle.job.specs.OwnJobs.{jobOfAllKinds}
+use Rattle.job.specs.JobQ.{jobQ}
 use Rattle.recurrence.specs.State.{noPoint, pointAt, startPoint, startState}
 use Rattle.recurrence.specs.Step.{nodeNow, inputs, along, cpAfter, cmBefore, kAtFinish, kAtStart, endsOf, sumsAt, headAt, located, atFinish, atStart, between, newIn, newAt, updated, newPoint, advanced}
 use Rattle.recurrence.specs.Scan.{causeNumber, faultOf, earlier, scan, outcomeOf, step, acceptableAt, acceptable}

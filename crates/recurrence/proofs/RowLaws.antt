@@ -14,15 +14,14 @@ use lib.Seq.{ext-getD, getD-take, length-take-le, take-at}
 use lib.Ieee.{Float}
 use borrow.Author.Tests.{leb-true, le-leb}
 use Rattle.fields.specs.Real.{zero64}
-use Rattle.loops.specs.Loops.{fill}
+use Rattle.loops.specs.Loops.{fill, listed}
 use Rattle.loops.proofs.Fill.{length-fill, fill-in}
 use Rattle.job.specs.Job.{Job, sections}
-use Rattle.job.specs.Format.{listed}
 use Rattle.recurrence.specs.State.{Point, State, noPoint, pointAt}
 use Rattle.recurrence.specs.Calls.{Row, heads, flows, highest, lowest, allRows, Rows, inUse, enoughLent, pointIn, stateIn, holds, rowsOf}
 use Rattle.recurrence.specs.Lent.{Holds}
-use Rattle.recurrence.proofs.Tests.{both}
-use Rattle.recurrence.proofs.Listed.{length-listed, getD-listed, map-listed, listed-cong}
+use Rattle.loops.proofs.Tests.{both}
+use Rattle.loops.proofs.Listed.{length-listed, getD-listed, map-listed, listed-cong}
 use Rattle.recurrence.proofs.Runs.{Sized}
 use Rattle.recurrence.proofs.EachRow.{EachOf, each, untupled}
 

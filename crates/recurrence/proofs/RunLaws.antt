@@ -1,32 +1,19 @@
 -- A run-on's questions and steps, as loops work them out: over the rows' entries, and one step at a time. Assumes nothing.
-use mathlib.Core.Path.{_≡_, refl, sym, ap, ap₂, _∙_}
-use mathlib.Core.Bool.{Bool, true, false, _&&_, true≢false}
-use Prim.Native.Nat.{ℕ, zero, suc, _+_, _-_, _<_}
+use mathlib.Core.Path.{_≡_, refl, sym, ap, _∙_}
+use mathlib.Core.Bool.{Bool, true, false, true≢false}
+use Prim.Native.Nat.{ℕ, zero, suc, _+_, _-_}
 use native.Mathlib.Nat.{zero-add}
 use native.Mathlib.Omega.{arith}
 use lib.Ieee.{Float}
-use Rattle.loops.specs.Loops.{allBelow, firstBelow}
-use Rattle.job.specs.Job.{Job, laid, sections, floorAt}
+use Rattle.loops.specs.Loops.{allBelow}
+use Rattle.loops.proofs.All.{all-cong}
+use Rattle.job.specs.Job.{Job, sections, floorAt}
 use Rattle.recurrence.specs.State.{Point, State}
-use Rattle.recurrence.specs.Step.{inputs, newPoint, advanced}
-use Rattle.recurrence.specs.Scan.{Cause, none, fault, faultOf, earlier, scan, Outcome, finished, stopped, outcomeOf, step, acceptableAt, acceptable}
+use Rattle.recurrence.specs.Step.{advanced}
+use Rattle.recurrence.specs.Scan.{Cause, none, fault, faultOf, scan, Outcome, finished, stopped, outcomeOf, step, acceptableAt, acceptable}
 use Rattle.recurrence.specs.Run.{Run, Result, refused, ran, completed, stop, onward, steps}
 use Rattle.recurrence.specs.Calls.{Rows, pointIn, stateIn}
 use Rattle.recurrence.proofs.RowLaws.{state-at}
-use Rattle.recurrence.proofs.StepLaws.{advanced-at}
-
--- ---- loops over tests that agree below n
-
-pub all-cong : (n : ℕ) (p q : ℕ → Bool) → ((s : ℕ) → s < n → p s ≡ q s) → allBelow p n ≡ allBelow q n
-unfolding allBelow
-all-cong zero p q h = refl
-all-cong (suc n) p q h = ap₂ _&&_ (all-cong n p q (λ s l. h s (omega arith))) (h n (omega arith))
-
-pub first-cong : {R : Type 0} (pick : R → R → R) (start : R) (n : ℕ) (v w : ℕ → R) → ((s : ℕ) → s < n → v s ≡ w s)
-    → firstBelow pick start v n ≡ firstBelow pick start w n
-unfolding firstBelow
-first-cong pick start zero v w h = refl
-first-cong pick start (suc n) v w h = ap₂ pick (first-cong pick start n v w (λ s l. h s (omega arith))) (h n (omega arith))
 
 -- ---- question 22 and the scan
 
@@ -36,11 +23,6 @@ unfolding acceptable
 acceptable-rows j r = all-cong (sections j) _ _ (λ s l. ap (acceptableAt (floorAt j s)) (state-at j r s l))
 
 -- a fault turns on head and flow alone
-pub scan-new : (j : Job) (n : ℕ) (st : State)
-    → scan j (advanced j n st) ≡ firstBelow earlier none (λ s. faultOf (floorAt j s) s (newPoint (laid j) (inputs j n) st s)) (sections j)
-unfolding scan
-scan-new j n st = first-cong earlier none (sections j) _ _ (λ s l. ap (faultOf (floorAt j s) s) (advanced-at j n st s l))
-
 pub fault-of : (floor : Float) (s : ℕ) (p q : Point) → p .head ≡ q .head → p .flow ≡ q .flow → faultOf floor s p ≡ faultOf floor s q
 unfolding faultOf
 fault-of floor s p q h e = rw (h, e)

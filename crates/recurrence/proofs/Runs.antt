@@ -9,8 +9,8 @@ use Rattle.recurrence.specs.State.{State, startState}
 use Rattle.recurrence.specs.Step.{advanced}
 use Rattle.recurrence.specs.Scan.{Fault, none, fault, scan, Outcome, finished, stopped, outcomeOf, step, acceptable}
 use Rattle.recurrence.specs.Run.{Run, Result, refused, ran, Ending, completed, stop, ask, Call, onward, steps, withinLimit, runOn, started, leftBy, playedFrom, played, oneMore, finishedOf, ifRan, stepsBy, stepsDoneFrom, stepsDone}
-use Rattle.recurrence.proofs.Tests.{cond-all}
-use Rattle.recurrence.proofs.Listed.{length-listed}
+use Rattle.loops.proofs.Tests.{cond-all}
+use Rattle.loops.proofs.Listed.{length-listed}
 
 -- a state with a point for each section
 abbrev pub Sized : Job → State → Type 0

@@ -8,7 +8,7 @@ use lib.ListN.{getElem?}
 use lib.Ieee.{binary64, toBits}
 use Rattle.job.specs.Job.{Laid, laid, nodeAt}
 use Rattle.job.specs.Format.{jobOf}
-use Rattle.job.proofs.Figures.{jobQ}
+use Rattle.job.specs.JobQ.{jobQ}
 use Rattle.recurrence.specs.State.{Point, pointAt}
 use Rattle.recurrence.specs.Run.{played}
 use Rattle.recurrence.specs.Paths.{EndAt, startsAt, finishesAt, Beside, down, up, PathTo, begins, along, across, AtLeast}
@@ -95,8 +95,8 @@ sharp = record {
   before = record { values = λ n p h. absurd (omega arith) };
   below = omega arith;
   off = off;
-  done = record { left = refl; right = refl };
+  done = (refl, refl);
   same = refl;
-  done-beyond = record { left = refl; right = refl };
+  done-beyond = (refl, refl);
   differs = differs;
 }

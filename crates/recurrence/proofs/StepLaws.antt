@@ -1,52 +1,25 @@
 -- The points of a step, as a sweep over the pipes works them out: by pipe and offset, and the sums one pipe at a time. Assumes nothing.
-use mathlib.Core.Path.{_≡_, refl, sym, ap, _∙_}
+use mathlib.Core.Path.{_≡_, refl}
 use mathlib.Core.Bool.{Bool, true, false, cond}
 use mathlib.Core.List.{List, [], _∷_}
 use mathlib.Core.Option.{some}
-use Prim.Native.Nat.{ℕ, zero, suc, _+_, _≤_, _<_}
-use native.Mathlib.Omega.{arith}
+use Prim.Native.Nat.{ℕ, zero, suc, _<_}
 use lib.Dec.{eqb}
-use lib.ListN.{length, getElem?, take}
+use lib.ListN.{getElem?, take}
 use lib.Ieee.{Float}
-use borrow.Author.Tests.{eq-eqb, ne-eqb}
 use Rattle.fields.specs.Real.{_⊞_}
 use Rattle.wave.specs.Wave.{sumFrom}
 use Rattle.job.specs.Job.{Job, Laid, laid, sections}
 use Rattle.recurrence.specs.State.{State, noPoint, pointAt}
-use Rattle.recurrence.specs.Step.{Inputs, inputs, endsOf, located, atFinish, atStart, between, newIn, newAt, newPoint, advanced}
-use Rattle.recurrence.proofs.Listed.{length-listed, getD-listed}
-use Rattle.recurrence.proofs.Laying.{laid-located}
+use Rattle.recurrence.specs.Step.{inputs, endsOf, newPoint, advanced}
+use Rattle.loops.proofs.Listed.{getD-listed}
 
 -- ---- the new points
 
 module _ (j : Job) (n : ℕ) (st : State) where
-  pub advanced-long : length (advanced j n st .points) ≡ sections j
-  unfolding advanced
-  advanced-long = length-listed (sections j) (newPoint (laid j) (inputs j n) st)
-
   pub advanced-at : (s : ℕ) → s < sections j → pointAt (advanced j n st) s ≡ newPoint (laid j) (inputs j n) st s
   unfolding advanced pointAt
   advanced-at s h = getD-listed (sections j) (newPoint (laid j) (inputs j n) st) s noPoint h
-
--- a laid pipe's start, its sections between the ends, and its finish
-module _ (j : Job) (f : Inputs) (st : State) (p : ℕ) (l : Laid) (e : getElem? (laid j) p ≡ some l) where
-  pub new-start : newAt (laid j) f st (located (laid j) (l .first)) ≡ atStart (laid j) f st l
-  unfolding newAt newIn
-  new-start =
-      let z : l .first + 0 ≡ l .first = omega arith in
-      ap (λ (s : ℕ). newAt (laid j) f st (located (laid j) s)) (sym z) ∙ rw (laid-located j p l 0 e (omega arith))
-
-  pub new-between : (i : ℕ) → suc i < l .pipe .reaches → newAt (laid j) f st (located (laid j) (l .first + suc i)) ≡ between f st l i
-  unfolding newAt newIn
-  new-between i h = rw (laid-located j p l (suc i) e (omega arith), ne-eqb (suc i) (l .pipe .reaches) (λ q. omega arith))
-
-  pub new-finish : 1 ≤ l .pipe .reaches → newAt (laid j) f st (located (laid j) (l .first + l .pipe .reaches)) ≡ atFinish (laid j) f st l
-  unfolding newAt newIn
-  new-finish h = rw (laid-located j p l (l .pipe .reaches) e (omega arith)) (go (l .pipe .reaches) refl h)
-    where
-      go : (i : ℕ) → i ≡ l .pipe .reaches → 1 ≤ i → newIn (laid j) f st l i ≡ atFinish (laid j) f st l
-      go zero q h = absurd (omega arith)
-      go (suc i) q h = rw (eq-eqb (suc i) (l .pipe .reaches) q)
 
 -- ---- a node's sums
 

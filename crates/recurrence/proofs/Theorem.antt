@@ -1,5 +1,5 @@
 -- Demand 3: the sections that a difference can have come to by a step lie in a cone about the edited node. Assumes nothing.
-use mathlib.Core.Path.{_≡_, sym, ap, ap₂, fun-ext}
+use mathlib.Core.Path.{_≡_, sym, ap, ap₂, fun-ext, _∙_}
 use mathlib.Core.List.{List}
 use mathlib.Core.Option.{some}
 use Prim.Native.Nat.{ℕ, suc, _+_, _-_, _≤_, _<_}
@@ -7,15 +7,16 @@ use native.Mathlib.Decide.{ℕ-discrete}
 use native.Mathlib.Omega.{arith}
 use lib.ListN.{getElem?}
 use Rattle.job.specs.Job.{Job, Pipe, Laid, Initial, laid, sections, sectionsOf, initialAt, frictionAt, floorAt, scheduled, withValue}
-use Rattle.job.specs.Format.{listed, jobOf}
+use Rattle.job.specs.Format.{jobOf}
+use Rattle.loops.specs.Loops.{listed}
 use Rattle.recurrence.specs.State.{State, pointAt, startPoint, startState}
 use Rattle.recurrence.specs.Step.{nodeNow}
 use Rattle.recurrence.specs.Scan.{scan, step, acceptable}
-use Rattle.recurrence.specs.Run.{Call, started, played, answers}
+use Rattle.recurrence.specs.Run.{Call, started, played, answers, stepsDone}
 use Rattle.recurrence.specs.Paths.{EndAt, Beside, down, up, PathTo, begins, along, across, AtLeast, NoPath}
-use Rattle.recurrence.specs.Demand.{BothDone, AlikeBut, AlikeBefore, Carried, Demand3}
+use Rattle.recurrence.specs.Demand.{seenBy, AlikeBut, AlikeBefore, Carried, Demand3}
 use Rattle.recurrence.proofs.Laying.{laid-whole}
-use Rattle.recurrence.proofs.Acceptance.{accepted-reaches}
+use Rattle.job.proofs.Accepted.{accepted-reaches}
 use Rattle.recurrence.proofs.Runs.{played-stands, played-counts}
 use Rattle.recurrence.proofs.Agree.{Spreads, Closed, advanced-same, agree}
 use Rattle.recurrence.proofs.Stops.{answers-same}
@@ -40,12 +41,12 @@ cone-spreads ls from k = record {
 }
 
 -- in a cone the runs of two jobs by one list of calls are alike
-pub in-cone : (A B : Job) (far : ℕ → ℕ → Type 0) → Closed A B far → (calls : List Call) (m s : ℕ) → BothDone A B calls m → far m s
-    → pointAt (played A calls .state) s ≡ pointAt (played B calls .state) s
-in-cone A B far cl calls m s d n =
-    let a : played A calls .done ≡ m = cc (played-counts A calls, d .left) in
-    let b : played B calls .done ≡ m = cc (played-counts B calls, d .right) in
-    agree A B far cl m (played A calls .state) (played B calls .state) (rw a at (played-stands A calls)) (rw b at (played-stands B calls)) s n
+pub in-cone : (A B : Job) (far : ℕ → ℕ → Type 0) → Closed A B far → (calls : List Call) (s : ℕ) → stepsDone A calls ≡ stepsDone B calls
+    → far (stepsDone A calls) s → pointAt (played A calls .state) s ≡ pointAt (played B calls .state) s
+in-cone A B far cl calls s d n =
+    let a = played-counts A calls in
+    let b = played-counts B calls ∙ sym d in
+    agree A B far cl (stepsDone A calls) (played A calls .state) (played B calls .state) (rw a at (played-stands A calls)) (rw b at (played-stands B calls)) s n
 
 -- ---- the scheduled values of one node
 
@@ -109,18 +110,20 @@ module _ (A B : Job) (x k : ℕ) (al : AlikeBut x A B) (be : AlikeBefore k x A B
       cc e
 
 -- A pressure wave carries every difference between two runs.
-pub wave-carries : (A B : Job) → Reaches A → Reaches B → (x k : ℕ) → 1 ≤ k → AlikeBut x A B → AlikeBefore k x A B → (calls : List Call) → Carried A B x k calls
+pub wave-carries : (A B : Job) → Reaches A → Reaches B → (x k : ℕ) → 1 ≤ k → AlikeBut x A B → AlikeBefore k x A B → (calls : List Call)
+    → Carried A x k (seenBy A calls) (seenBy B calls)
 unfolding Cone AtLeast NoPath answers
 wave-carries A B okA okB x k pos al be calls = record {
-  near = λ m d s b _ off h. alike m s b (λ e r. omega (arith, off e r));
-  apart = λ m s b _ off. alike m s b (λ e r. absurd (off e r));
+  near = λ d s b _ off h. alike s b (λ e r. omega (arith, off e r));
+  apart = λ s b _ off. alike s b (λ e r. absurd (off e r));
   stops = λ c cause m s h. (
     λ e. rw (started-same A B x k al be) at (answers-same A B k same-step same-rest (started A) calls c cause m s h e),
     λ e. answers-same B A k (λ n i u. sym (same-step n i u)) (λ u. sym (same-rest u)) (started A) calls c cause m s h (rw (← (started-same A B x k al be)) at e),
   );
 }
   where
-    alike : (m s : ℕ) → BothDone A B calls m → Cone (laid A) (EndAt (laid A) x) k m s → pointAt (played A calls .state) s ≡ pointAt (played B calls .state) s
+    alike : (s : ℕ) → stepsDone A calls ≡ stepsDone B calls → Cone (laid A) (EndAt (laid A) x) k (stepsDone A calls) s
+        → pointAt (played A calls .state) s ≡ pointAt (played B calls .state) s
     alike = in-cone A B (Cone (laid A) (EndAt (laid A) x) k) (closed A B x k al be okA) calls
 
     same-step : (m : ℕ) → suc m < k → (u : State) → step A (suc m) u ≡ step B (suc m) u

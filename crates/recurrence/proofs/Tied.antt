@@ -14,7 +14,7 @@ use Rattle.recurrence.specs.Scan.{notFinite, parted, causeNumber}
 use Rattle.recurrence.specs.Run.{Run, Result, refused, ran, Ending, completed, stop, stopAnswer, answerOf, ask, started, start, steps, runOn, leftBy, playedFrom, played, answersFrom, answers}
 use Rattle.recurrence.specs.Calls.{Rows, enoughLent, stateIn, rowsAfter, readFirst, called, startResult, startCall, runOnResult, runOnCall}
 use Rattle.recurrence.specs.Lent.{LentCall, Held, isRefusal, Started, heldAtStart, answerAt, heldAfter, heldFrom, answersTo, heldBy, answersBy, SameUpTo, Chained, callOf, Holds, CallsTied}
-use Rattle.recurrence.proofs.Listed.{length-listed}
+use Rattle.loops.proofs.Listed.{length-listed}
 use Rattle.recurrence.proofs.RowLaws.{holds-state, rows-hold}
 use Rattle.recurrence.proofs.Runs.{Sized, steps-ran, run-on-all, played-counts}
 

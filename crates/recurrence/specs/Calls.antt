@@ -7,7 +7,8 @@ use lib.ListN.{length, getD, drop, replicate}
 use lib.Ieee.{Float}
 use Rattle.fields.specs.Real.{zero64}
 use Rattle.job.specs.Job.{Job, sections}
-use Rattle.job.specs.Format.{listed, jobOf}
+use Rattle.job.specs.Format.{jobOf}
+use Rattle.loops.specs.Loops.{listed}
 use Rattle.job.specs.Questions.{refusal}
 use Rattle.recurrence.specs.State.{Point, State}
 use Rattle.recurrence.specs.Run.{Result, refused, ran, Answer, answerOf, start, runOn}

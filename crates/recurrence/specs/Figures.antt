@@ -7,7 +7,7 @@ use lib.Ieee.{neg}
 use Rattle.fields.specs.Real.{zero64}
 use Rattle.root.specs.Figures.{P10}
 use Rattle.wave.specs.Figures.{BenchFigures, _is_, num}
-use Rattle.job.proofs.Figures.{jobQ}
+use Rattle.job.specs.JobQ.{jobQ}
 use Rattle.recurrence.specs.Run.{Answer, steps}
 use Rattle.recurrence.specs.Calls.{heads, flows, Rows, gathered, Called, startCall, runOnCall}
 
@@ -58,7 +58,10 @@ pub record BenchTable : Type 0 where
   pub p3 : getD (ranOn jobQ 5 .rows heads) 2 zero64 is num 6
   pub p4-to-p9 : BenchFigures
   pub p10 : P10
-  -- "Edges: .. a head on its floor runs on; m = 1,000,000 passes with N = 0 only."
+  -- "Edges: 511 reaches pass, 512 don't": question 7 of job Q with so many. With 511 the first no is question 13's, since table 3 still holds two R.
+  pub reaches-511 : startCall (patched jobQ ((48, 255) ∷ (49, 1) ∷ [])) lentSevens .answer ≡ refusal 13
+  pub reaches-512 : startCall (patched jobQ ((48, 0) ∷ (49, 2) ∷ [])) lentSevens .answer ≡ refusal 7
+  -- ".. a head on its floor runs on; m = 1,000,000 passes with N = 0 only."
   pub on-floor : ranOn jobQOnFloor 1 .answer ≡ done 1
   pub limit : runOnCall jobQ 1_000_000 0 (startCall jobQ lentSevens .rows) .answer ≡ done 1_000_000
   pub limit-passed : runOnCall jobQ 1_000_000 1 (startCall jobQ lentSevens .rows) .answer ≡ refusal 21

@@ -1,20 +1,16 @@
 -- Lists of public calls on lent rows, as a caller makes them, and what ties them to the lists of demand 3. Definitions only.
 use mathlib.Core.Path.{_≡_}
-use mathlib.Core.Logic.{_↔_}
 use mathlib.Core.Bool.{Bool, true, false, cond, not, _&&_}
 use mathlib.Core.List.{List, [], _∷_, map}
-use mathlib.Core.Option.{some}
-use Prim.Native.Nat.{ℕ, suc, _+_, _-_, _≤_, _<_}
+use Prim.Native.Nat.{ℕ, _≤_}
 use lib.Dec.{eqb}
-use lib.ListN.{take, getElem?}
-use Rattle.job.specs.Job.{Job, laid, sections}
+use lib.ListN.{take}
+use Rattle.job.specs.Job.{Job}
 use Rattle.job.specs.Format.{jobOf}
 use Rattle.recurrence.specs.State.{State}
-use Rattle.recurrence.specs.Scan.{Cause}
-use Rattle.recurrence.specs.Run.{Answer, stopAnswer, Call, played, answers, stepsDone}
+use Rattle.recurrence.specs.Run.{Answer, Call, played, answers, stepsDone}
 use Rattle.recurrence.specs.Calls.{Row, heads, flows, highest, lowest, spare, Rows, inUse, enoughLent, pointIn, holds, startCall, runOnCall}
-use Rattle.recurrence.specs.Paths.{EndAt, AtLeast, NoPath}
-use Rattle.recurrence.specs.Demand.{AlikeBut, AlikeBefore}
+use Rattle.recurrence.specs.Demand.{AlikeBut, AlikeBefore, Seen, Carried}
 
 -- A run-on as a caller makes it: N, and the rows lent to it.
 pub record LentCall : Type 0 where
@@ -102,17 +98,10 @@ CallsTied =
 
 -- ---- demand 3 as a caller sees it, in rows and answers
 
--- What two callers hold and were answered: by the jobs a and b, after lists of calls that are the same calls.
-pub record CarriedInRows (a b : List ℕ) (x k : ℕ) (lentA lentB : Rows) (callsA callsB : List LentCall) : Type 0 where
-  pub near : (m d s : ℕ) → heldBy a lentA callsA .done ≡ m → heldBy b lentB callsB .done ≡ m
-      → s < sections (jobOf a) → AtLeast (laid (jobOf a)) (EndAt (laid (jobOf a)) x) s d → m ≤ k + d - 1
-      → pointIn (heldBy a lentA callsA .rows) s ≡ pointIn (heldBy b lentB callsB .rows) s
-  pub apart : (m s : ℕ) → heldBy a lentA callsA .done ≡ m → heldBy b lentB callsB .done ≡ m
-      → s < sections (jobOf a) → NoPath (laid (jobOf a)) (EndAt (laid (jobOf a)) x) s
-      → pointIn (heldBy a lentA callsA .rows) s ≡ pointIn (heldBy b lentB callsB .rows) s
-  pub stops : (c : ℕ) (cause : Cause) (m s : ℕ) → suc m < k
-      → (getElem? (answersBy a lentA callsA) c ≡ some (stopAnswer cause m s))
-      ↔ (getElem? (answersBy b lentB callsB) c ≡ some (stopAnswer cause m s))
+-- after a start and the calls, in the rows that the last one left
+abbrev pub seenIn : List ℕ → Rows → List LentCall → Seen
+seenIn job lent cs =
+    record { done = heldBy job lent cs .done; point = pointIn (heldBy job lent cs .rows); answers = answersBy job lent cs }
 
 -- "The same calls means the same N and the same answer to question 20, call by call."
 abbrev pub Demand3InRows : Type 0
@@ -121,4 +110,4 @@ Demand3InRows =
     → (x k : ℕ) → 1 ≤ k → AlikeBut x (jobOf a) (jobOf b) → AlikeBefore k x (jobOf a) (jobOf b)
     → (callsA callsB : List LentCall) → map (callOf a) callsA ≡ map (callOf b) callsB
     → Chained a (heldAtStart a lentA) callsA → Chained b (heldAtStart b lentB) callsB
-    → CarriedInRows a b x k lentA lentB callsA callsB
+    → Carried (jobOf a) x k (seenIn a lentA callsA) (seenIn b lentB callsB)

@@ -7,6 +7,7 @@ pub mod Slices
 pub mod Paths
 pub mod Demand
 pub mod Lent
+pub mod Continued
 pub mod Figures
 pub mod OwnFigures
 pub mod Sharp

@@ -9,7 +9,8 @@ use lib.Ieee.{Float, nan, binary64, neg, toBits}
 use Rattle.fields.specs.Real.{zero64, infinity64}
 use Rattle.wave.specs.Figures.{num, halved, power}
 use Rattle.job.specs.Job.{Job, Pipe, Kind, junction, reservoir, valve, ScheduledNode, Initial}
-use Rattle.job.proofs.Figures.{jobQ, jobOfAllKinds}
+use Rattle.job.specs.OwnJobs.{jobOfAllKinds}
+use Rattle.job.specs.JobQ.{jobQ}
 use Rattle.recurrence.specs.State.{startState}
 use Rattle.recurrence.specs.Run.{Answer, answerOf, started, steps, leftBy}
 use Rattle.recurrence.specs.Calls.{Row, heads, flows, highest, lowest, spare, allRows, Rows, gathered, enoughLent, holds, Called, startCall, runOnCall}

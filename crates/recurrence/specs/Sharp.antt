@@ -7,9 +7,9 @@ use Rattle.job.specs.Job.{laid, sections}
 use Rattle.job.specs.Format.{jobOf}
 use Rattle.job.specs.Questions.{Accepted}
 use Rattle.recurrence.specs.State.{pointAt}
-use Rattle.recurrence.specs.Run.{Call, played}
+use Rattle.recurrence.specs.Run.{Call, played, stepsDone}
 use Rattle.recurrence.specs.Paths.{EndAt, AtLeast}
-use Rattle.recurrence.specs.Demand.{AlikeBut, AlikeBefore, BothDone}
+use Rattle.recurrence.specs.Demand.{AlikeBut, AlikeBefore}
 
 -- one call of N steps
 abbrev pub once : ℕ → List Call
@@ -22,7 +22,7 @@ pub record Sharp (a b : List ℕ) (x k s d : ℕ) : Type 0 where
   pub before : AlikeBefore k x (jobOf a) (jobOf b)
   pub below : s < sections (jobOf a)
   pub off : AtLeast (laid (jobOf a)) (EndAt (laid (jobOf a)) x) s d
-  pub done : BothDone (jobOf a) (jobOf b) (once (k + d - 1)) (k + d - 1)
+  pub done : (stepsDone (jobOf a) (once (k + d - 1)) ≡ k + d - 1) × (stepsDone (jobOf b) (once (k + d - 1)) ≡ k + d - 1)
   pub same : pointAt (played (jobOf a) (once (k + d - 1)) .state) s ≡ pointAt (played (jobOf b) (once (k + d - 1)) .state) s
-  pub done-beyond : BothDone (jobOf a) (jobOf b) (once (k + d)) (k + d)
+  pub done-beyond : (stepsDone (jobOf a) (once (k + d)) ≡ k + d) × (stepsDone (jobOf b) (once (k + d)) ≡ k + d)
   pub differs : ¬ (pointAt (played (jobOf a) (once (k + d)) .state) s ≡ pointAt (played (jobOf b) (once (k + d)) .state) s)

@@ -5,7 +5,7 @@ use lib.ListN.{getD}
 use lib.Ieee.{Float}
 use Rattle.fields.specs.Real.{zero64}
 use Rattle.job.specs.Job.{Job, Initial, sections, initialAt}
-use Rattle.job.specs.Format.{listed}
+use Rattle.loops.specs.Loops.{listed}
 
 -- What one section holds: its head and flow, and the two envelopes, the highest and the lowest head so far.
 pub record Point : Type 0 where

@@ -11,7 +11,7 @@ use Rattle.wave.specs.declared.HeadFlow.{HeadFlow}
 use Rattle.wave.specs.Wave.{fromAbove, fromBelow, inner, finishK, startK, finishEnd, startEnd, sumsOf}
 use Rattle.wave.specs.Nodes.{nodeHead}
 use Rattle.job.specs.Job.{Job, Laid, laid, sections, frictionAt, nodeAt, scheduled, withValue}
-use Rattle.job.specs.Format.{listed}
+use Rattle.loops.specs.Loops.{listed}
 use Rattle.recurrence.specs.State.{Point, State, pointAt}
 
 -- ---- what a step reads, beside the layout and the old state

@@ -10,7 +10,9 @@ use Rattle.recurrence.specs.State.{State, pointAt}
 use Rattle.recurrence.specs.Scan.{none, earlier, faultOf, scan, acceptableAt, acceptable}
 use Rattle.recurrence.specs.Calls as row
 use Rattle.recurrence.specs.Calls.{Rows, pointIn, stateIn}
-use Rattle.recurrence.proofs.RunLaws.{all-cong, first-cong, acceptable-rows, fault-of}
+use Rattle.recurrence.proofs.RunLaws.{acceptable-rows, fault-of}
+use Rattle.loops.proofs.All.{all-cong}
+use Rattle.loops.proofs.First.{first-cong}
 use Rattle.rows.specs.Faults.{floorIn, headFlowPoint, faultAt, firstFault, acceptableIn}
 
 module _ (j : Job) (initial : List ℕ) (floors : (s : ℕ) → s < sections j → floorIn initial s ≡ floorAt j s) where

@@ -14,7 +14,7 @@ use Rattle.loops.proofs.First.{first-none, first-more, first-stop}
 use Rattle.wave.specs.declared.HeadFlow.{HeadFlow}
 use Rattle.job.specs.Format.{sectionIn}
 use Rattle.job.specs.Questions.{finiteSection, sectionFits, initialFits}
-use Rattle.job.proofs.Tables.{both}
+use Rattle.loops.proofs.Tests.{both}
 use Rattle.job.proofs.SectionLaws.{finite-section}
 use Rattle.recurrence.specs.Scan.{Fault, none, fault, notFinite, parted, faultOf, earlier, acceptableAt}
 use Rattle.rows.specs.Faults.{floorIn, headFlowPoint, faultWith, isSound, soundWith, acceptableIn}

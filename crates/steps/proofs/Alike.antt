@@ -5,7 +5,7 @@ use Prim.Native.Nat.{ℕ, zero, suc, _+_}
 use lib.ListN.{getD}
 use lib.Ieee.{Float}
 use Rattle.job.specs.Job.{Laid}
-use Rattle.job.specs.Format.{listed}
+use Rattle.loops.specs.Loops.{listed}
 use Rattle.recurrence.specs.State.{State, pointAt}
 use Rattle.recurrence.specs.Step.{Inputs, along, cpAfter, cmBefore, kAtStart, kAtFinish, sumsAt, headAt, Place, nowhere, place, atStart, atFinish, between, newIn, newAt}
 

@@ -15,7 +15,7 @@ use Rattle.wave.specs.declared.HeadFlow.{HeadFlow}
 use Rattle.job.specs.Job.{Job, laid, sections, initialAt, floorAt}
 use Rattle.job.specs.Format.{jobOf, pipeTable, pipeCount, initialTable, initialIn, sectionIn}
 use Rattle.job.specs.Questions.{Accepted}
-use Rattle.job.proofs.Listed.{getD-listed}
+use Rattle.loops.proofs.Listed.{getD-listed, listed-cong}
 use Rattle.job.proofs.Accepted.{initial-length, pipes-length}
 use Rattle.recurrence.specs.State.{Point, State, pointAt, noPoint}
 use Rattle.recurrence.specs.Step.{inputs, located, newAt, updated, newPoint, advanced}
@@ -23,7 +23,6 @@ use Rattle.recurrence.specs.Scan.{scan}
 use Rattle.recurrence.specs.Calls as row
 use Rattle.recurrence.specs.Calls.{Rows, gathered, inUse, pointIn, stateIn}
 use Rattle.recurrence.proofs.EachRow.{each}
-use Rattle.recurrence.proofs.Listed.{listed-cong}
 use Rattle.recurrence.proofs.RowLaws.{Enough, state-at}
 use Rattle.recurrence.proofs.StepLaws.{advanced-at}
 use Rattle.rows.specs.Rows.{entry, raised, lowered, enveloped}

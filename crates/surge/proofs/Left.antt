@@ -9,9 +9,9 @@ use lib.ListN.{length, take, drop}
 use lib.Ieee.{Float}
 use borrow.Author.Tests.{eq-eqb, ne-eqb, leb-true}
 use Rattle.fields.specs.Real.{zero64}
-use Rattle.loops.specs.Loops.{fill}
+use Rattle.loops.specs.Loops.{fill, listed}
 use Rattle.job.specs.Job.{Job, sections, initialAt}
-use Rattle.job.specs.Format.{listed, jobOf, pipeTable, pipeCount}
+use Rattle.job.specs.Format.{jobOf, pipeTable, pipeCount}
 use Rattle.job.specs.Questions.{refusal, Accepted}
 use Rattle.recurrence.specs.State.{Point, State, startPoint, startState}
 use Rattle.recurrence.specs.Scan.{acceptable}
@@ -19,8 +19,8 @@ use Rattle.recurrence.specs.Run.{Result, refused, ran, completed, answerOf, ask
 use Rattle.recurrence.specs.Calls as row
 use Rattle.recurrence.specs.Calls.{Row, Rows, gathered, every, inUse, enoughLent, stateIn, holds, rowsOf, rowsAfter, readFirst, called, startResult, startCall, runOnResult, runOnCall}
 use Rattle.recurrence.specs.Lent.{carried}
-use Rattle.recurrence.proofs.Tests.{both}
-use Rattle.recurrence.proofs.Listed.{map-listed}
+use Rattle.loops.proofs.Tests.{both}
+use Rattle.loops.proofs.Listed.{map-listed}
 use Rattle.recurrence.proofs.EachRow.{each}
 use Rattle.recurrence.proofs.RowLaws.{Enough, state-held, row-left, take-filled, listed-same}
 use Rattle.surge.specs.declared.answer.Answer.{Answer}

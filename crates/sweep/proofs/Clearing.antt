@@ -18,7 +18,7 @@ use Rattle.fields.specs.Bytes.{u64At, f64At}
 use Rattle.loops.specs.Loops.{allBelow}
 use Rattle.loops.proofs.All.{all-none, all-more}
 use Rattle.wave.specs.Wave.{inner}
-use Rattle.job.proofs.Tables.{both}
+use Rattle.loops.proofs.Tests.{both}
 use Rattle.rows.specs.Faults.{floorIn, soundWith}
 use Rattle.rows.proofs.Differences.{both-finite}
 use Rattle.rows.proofs.Sound.{sound-is}

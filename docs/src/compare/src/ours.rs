@@ -63,10 +63,12 @@ impl Answer {
 }
 
 pub fn root(x: f64) -> f64 {
+    // SAFETY: a number goes in and a number comes out; the contract has no precondition.
     unsafe { vintuqay_root(x) }
 }
 
 pub fn read(job: &[u8]) -> Answer {
+    // SAFETY: the pointer and the length are those of one slice, which is only read.
     Answer::unpacked(unsafe { vintuqay_read(job.as_ptr(), job.len()) })
 }
 
@@ -74,6 +76,8 @@ pub fn read(job: &[u8]) -> Answer {
 pub fn start(job: &[u8], rows: &mut RowStore, lengths: Lengths) -> Answer {
     let [a, b, c, d, e] = pointers(rows, lengths);
     let [la, lb, lc, ld, le] = lengths;
+    // SAFETY: `pointers` has seen that each row holds what is lent of it; the rows are slices of their own, borrowed
+    // mutably here, and the job is only read.
     let packed =
         unsafe { vintuqay_start(job.as_ptr(), job.len(), a, la, b, lb, c, lc, d, ld, e, le) };
     Answer::unpacked(packed)
@@ -84,6 +88,8 @@ pub fn run_on(job: &[u8], done: u64, count: u64, rows: &mut RowStore, lengths: L
     let [a, b, c, d, e] = pointers(rows, lengths);
     let [la, lb, lc, ld, le] = lengths;
     let (bytes, size) = (job.as_ptr(), job.len());
+    // SAFETY: `pointers` has seen that each row holds what is lent of it; the rows are slices of their own, borrowed
+    // mutably here, and the job is only read.
     let packed =
         unsafe { vintuqay_run_on(bytes, size, done, count, a, la, b, lb, c, lc, d, ld, e, le) };
     Answer::unpacked(packed)
@@ -92,6 +98,7 @@ pub fn run_on(job: &[u8], done: u64, count: u64, rows: &mut RowStore, lengths: L
 /// The line of a section at the front of `out`: how many bytes it takes, 0 for a refusal.
 pub fn line(section: usize, values: [f64; 4], out: &mut [u8]) -> usize {
     let [head, flow, highest, lowest] = values;
+    // SAFETY: the pointer and the length are those of `out`, borrowed mutably here.
     unsafe { vintuqay_line(section, head, flow, highest, lowest, out.as_mut_ptr(), out.len()) }
 }
 

@@ -10,7 +10,7 @@ not-below-zero-requires c κs = (search needs, finite-figures _ _ (c .before .pr
 
 returns : tie.Need-returns
 unfolding valveFits
-returns c = cc
+returns c = rw (c .before .not-below-zero .ensures, c .zero-bits-at .ensures)
 
 pub valve-fits-spec : {M : Type 1} → statement M
 valve-fits-spec =

@@ -6,7 +6,7 @@ use Rattle.job.proofs.pairs.pairs_fit.Tie as tie
 
 returns : tie.Need-returns
 unfolding pairsFit
-returns c = cc
+returns c = rw (c .pair-count .ensures .0)
 
 pub pairs-fit-spec : {M : Type 1} → statement M
 pairs-fit-spec = tie.close (tie.spec (λ c κs. search needs) returns)

@@ -6,7 +6,7 @@ use Rattle.job.proofs.pairs.size_fits.Tie as tie
 
 returns : tie.Need-returns
 unfolding sizeFits
-returns c = cc
+returns c = rw (c .pairs-end .ensures)
 
 pub size-fits-spec : {M : Type 1} → statement M
 size-fits-spec = tie.close (tie.spec (λ c κs. search needs) returns)

@@ -3,7 +3,8 @@ use mathlib.Core.Path.{_≡_}
 use Prim.Native.Nat.{_≤_, _*_, _-_}
 use native.Mathlib.Omega.{arith}
 use denote.Ref.{now}
-use Rattle.job.specs.Format.{pipeCount, firstsOf}
+use Rattle.job.specs.Format.{pipeCount}
+use Rattle.job.specs.FromTables.{firstsOf}
 use Rattle.job.proofs.Laid.{firsts-none}
 use borrow.Author.Needs.{needs}
 use Rattle.job.proofs.pipes.ends.Statement.{statement}

@@ -3,7 +3,7 @@ use Prim.Native.Nat.{_-_}
 use native.Mathlib.Omega.{arith}
 use borrow.Author.Needs.{needs}
 use Rattle.loops.proofs.Fill.{Upto, upto-none, upto-step, upto-done}
-use Rattle.job.specs.Format.{initialOf}
+use Rattle.job.specs.FromTables.{initialOf}
 use Rattle.surge.proofs.state.write_initial.Statement.{statement}
 use Rattle.surge.proofs.state.write_initial.Tie as tie
 

@@ -89,7 +89,7 @@ impl Watch {
 
 /// CP - CM above this keeps a head from being below the floor.
 fn least_difference(s: f64, floor: f64) -> f64 {
-    if !((s >= 1.0 / LARGE) & (s <= LARGE) & (floor <= LARGE)) {
+    if !((1.0 / LARGE..=LARGE).contains(&s) && floor <= LARGE) {
         return f64::INFINITY;
     }
     let least = floor.max(-LARGE) * (s + s);

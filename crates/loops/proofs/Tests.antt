@@ -1,7 +1,14 @@
--- What turns on a test goes by its two cases. Assumes nothing.
+-- What turns on a test goes by its two cases; two tests joined by `&&`. Assumes nothing.
 use mathlib.Core.Path.{_≡_, refl}
-use mathlib.Core.Bool.{Bool, true, false, cond}
-pub use Rattle.job.proofs.Tables.{both}
+use mathlib.Core.Bool.{Bool, true, false, _&&_, cond}
+
+pub and-false : (a : Bool) → a && false ≡ false
+and-false true = refl
+and-false false = refl
+
+pub both : (a b : Bool) → a && b ≡ true → (a ≡ true) × (b ≡ true)
+both true b h = (refl, h)
+both false b h = (h, cc)
 
 pub cond-cong : {A : Type 0} (b : Bool) {x x′ y y′ : A} → (b ≡ true → x ≡ x′) → (b ≡ false → y ≡ y′) → cond b x y ≡ cond b x′ y′
 cond-cong true h k = h refl
