@@ -7,7 +7,8 @@ use lib.Dec.{eqb}
 use lib.ListN.{length, getD, replicate}
 use lib.Ieee.{Float, nan}
 use Rattle.fields.specs.Real.{zero64}
-use Rattle.loops.specs.Loops.{fill, listed}
+use Rattle.loops.specs.Loops.{listed}
+use Rattle.loops.specs.Fill.{fill}
 use Rattle.wave.specs.declared.HeadFlow.{HeadFlow}
 use Rattle.wave.specs.Wave.{sumFrom, startEnd, finishEnd}
 use Rattle.wave.specs.Nodes.{nodeHead}

@@ -45,17 +45,9 @@ stepsFit job = leb (listingSteps job) 1000000
 
 -- ---- pipes and nodes
 
--- a table of records, `width` bytes each, low to high of them and nothing else
+-- 5 "Is table 1 whole, 1 to 32 pipes?", 6 "Is table 2 whole, 2 to 32 nodes?": a table of records, `width` bytes each, low to high of them and nothing else
 unfoldable pub holdsRecords : ℕ → ℕ → ℕ → List ℕ → Bool
 holdsRecords width low high t = eqb (length t % width) 0 && leb low (length t / width) && leb (length t / width) high
-
--- 5 "Is table 1 whole, 1 to 32 pipes?"
-abbrev pub pipesFit : List ℕ → Bool
-pipesFit pipes = holdsRecords 12 1 32 pipes
-
--- 6 "Is table 2 whole, 2 to 32 nodes?"
-abbrev pub nodesFit : List ℕ → Bool
-nodesFit nodes = holdsRecords 26 2 32 nodes
 
 -- 7 "Has each pipe two different nodes, both present, and 1 to 511 reaches?"
 unfoldable pub joins : ℕ → Pipe → Bool
@@ -183,8 +175,8 @@ pairQuestions =
 
 unfoldable pub pipeQuestions : List Question
 pipeQuestions =
-    (5, λ job. pipesFit (pipeTable job))
-    ∷ (6, λ job. nodesFit (nodeTable job))
+    (5, λ job. holdsRecords 12 1 32 (pipeTable job))
+    ∷ (6, λ job. holdsRecords 26 2 32 (nodeTable job))
     ∷ (7, λ job. pipesJoin (pipeTable job) (nodeCount (nodeTable job)))
     ∷ (8, λ job. sectionsFit (pipeTable job))
     ∷ (9, λ job. constantsFit (pipeTable job))

@@ -1,18 +1,12 @@
 -- Lists given by a function, and what a loop computes, for any element type and any function. Definitions only; their laws are in proofs/, a file for each.
 use mathlib.Core.Bool.{Bool, true, _&&_}
 use mathlib.Core.List.{List, [], _∷_}
-use Prim.Native.Nat.{ℕ, zero, suc, _+_}
-use lib.ListN.{set}
+use Prim.Native.Nat.{ℕ, zero, suc}
 
 -- f 0, f 1, .., f (n - 1)
 unfoldable pub listed : {A : Type 0} → ℕ → (ℕ → A) → List A
 listed zero f = []
 listed (suc n) f = f zero ∷ listed n (λ k. f (suc k))
-
--- the list l with f 0, f 1, .., f (n - 1) stored at `at`, at + 1, ..
-unfoldable pub fill : {A : Type 0} → (ℕ → A) → List A → ℕ → ℕ → List A
-fill f l at zero = l
-fill f l at (suc n) = set (fill f l at n) (at + n) (f n)
 
 -- whether p holds of every number below n
 unfoldable pub allBelow : (ℕ → Bool) → ℕ → Bool

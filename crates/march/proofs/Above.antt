@@ -9,7 +9,7 @@ use native.Mathlib.Omega.{arith}
 use lib.ListN.{set}
 use lib.Ieee.{Float}
 use Rattle.fields.specs.Real.{zero64}
-use Rattle.loops.specs.Loops.{fill}
+use Rattle.loops.specs.Fill.{fill}
 use Rattle.loops.proofs.Fill.{fill-cong, fill-below, fill-front}
 use Rattle.wave.specs.declared.HeadFlow.{HeadFlow}
 use Rattle.rows.specs.Rows.{entry, raised, lowered, enveloped}

@@ -11,7 +11,7 @@ use lib.Dec.{eqb}
 use lib.ListN.{getD}
 use lib.Ieee.{Float, nan}
 use Rattle.fields.specs.Real.{zero64}
-use Rattle.loops.specs.Loops.{fill}
+use Rattle.loops.specs.Fill.{fill}
 use Rattle.loops.proofs.Fill.{fill-above}
 use Rattle.wave.specs.declared.HeadFlow.{HeadFlow}
 use Rattle.job.specs.declared.pipes.Firsts.{Firsts}

@@ -2,14 +2,14 @@ pub mod Opened
 pub mod EachRow
 pub mod Figures
 pub mod Laying
-pub mod Cone
+pub mod LocalStep
 pub mod Runs
-pub mod Agree
+pub mod RunsAgree
 pub mod Stops
 pub mod Theorem
 pub mod Tied
 pub mod InRows
-pub mod Continued
+pub mod GoesOn
 pub mod Sharp
 pub mod SameBits
 pub mod RowLaws

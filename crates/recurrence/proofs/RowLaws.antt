@@ -14,7 +14,8 @@ use lib.Seq.{ext-getD, getD-take, length-take-le, take-at}
 use lib.Ieee.{Float}
 use borrow.Author.Tests.{leb-true, le-leb}
 use Rattle.fields.specs.Real.{zero64}
-use Rattle.loops.specs.Loops.{fill, listed}
+use Rattle.loops.specs.Loops.{listed}
+use Rattle.loops.specs.Fill.{fill}
 use Rattle.loops.proofs.Fill.{length-fill, fill-in}
 use Rattle.job.specs.Job.{Job, sections}
 use Rattle.recurrence.specs.State.{Point, State, noPoint, pointAt}

@@ -18,7 +18,7 @@ use Rattle.recurrence.specs.Demand.{seenBy, AlikeBut, AlikeBefore, Carri
 use Rattle.recurrence.proofs.Laying.{laid-whole}
 use Rattle.job.proofs.Accepted.{accepted-reaches}
 use Rattle.recurrence.proofs.Runs.{played-stands, played-counts}
-use Rattle.recurrence.proofs.Agree.{Spreads, Closed, advanced-same, agree}
+use Rattle.recurrence.proofs.RunsAgree.{Spreads, Closed, advanced-same, agree}
 use Rattle.recurrence.proofs.Stops.{answers-same}
 
 -- ---- the cone of an edit

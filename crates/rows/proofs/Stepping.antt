@@ -8,7 +8,7 @@ use native.Mathlib.Omega.{arith}
 use lib.ListN.{length, getD, set}
 use lib.Ieee.{Float, nan}
 use Rattle.fields.specs.Real.{zero64}
-use Rattle.loops.specs.Loops.{fill}
+use Rattle.loops.specs.Fill.{fill}
 use Rattle.loops.proofs.Fill.{fill-none, fill-step, fill-above, fill-cong, fill-join, length-fill}
 use Rattle.wave.specs.declared.HeadFlow.{HeadFlow}
 use Rattle.rows.specs.Rows.{entry, raised, lowered, enveloped}

@@ -6,7 +6,7 @@ use Prim.Native.Nat.{ℕ, _+_}
 use lib.ListN.{getD}
 use lib.Ieee.{Float, lt}
 use Rattle.fields.specs.Real.{zero64}
-use Rattle.loops.specs.Loops.{fill}
+use Rattle.loops.specs.Fill.{fill}
 use Rattle.wave.specs.declared.HeadFlow.{HeadFlow}
 use Rattle.recurrence.specs.Slices.{LentSlice}
 

@@ -9,7 +9,7 @@ use native.Mathlib.Omega.{arith}
 use lib.ListN.{length, drop}
 use lib.Ieee.{Float}
 use Rattle.fields.specs.Real.{zero64}
-use Rattle.loops.specs.Loops.{fill}
+use Rattle.loops.specs.Fill.{fill}
 use Rattle.loops.proofs.Fill.{fill-in, drop-fill}
 use Rattle.wave.specs.declared.HeadFlow.{HeadFlow}
 use Rattle.job.specs.Job.{Job, laid, sections, initialAt, floorAt}

@@ -9,7 +9,8 @@ use lib.ListN.{length, take, drop}
 use lib.Ieee.{Float}
 use borrow.Author.Tests.{eq-eqb, ne-eqb, leb-true}
 use Rattle.fields.specs.Real.{zero64}
-use Rattle.loops.specs.Loops.{fill, listed}
+use Rattle.loops.specs.Loops.{listed}
+use Rattle.loops.specs.Fill.{fill}
 use Rattle.job.specs.Job.{Job, sections, initialAt}
 use Rattle.job.specs.Format.{jobOf, pipeTable, pipeCount}
 use Rattle.job.specs.Questions.{refusal, Accepted}

@@ -6,7 +6,7 @@ ghost use Prim.Native.Nat.{ℕ, _*_, _≤_};
 ghost use lib.ListN.{length};
 ghost use lib.Ieee.{Float};
 ghost use Rattle.fields.specs.Real.{zero64};
-ghost use Rattle.loops.specs.Loops.{fill};
+ghost use Rattle.loops.specs.Fill.{fill};
 ghost use Rattle.job.specs.Job.{sections, initialAt};
 ghost use Rattle.job.specs.Format.{jobOf, pipeTable, pipeCount};
 ghost use Rattle.job.specs.FromTables.{initialOf};

@@ -9,7 +9,7 @@ use Rattle.recurrence.specs.State.{State, pointAt, noPoint, startPoint, 
 use Rattle.recurrence.specs.Step.{inputs, nodeNow, newPoint, advanced}
 use Rattle.recurrence.specs.Paths.{EndAt, Beside}
 use Rattle.loops.proofs.Listed.{getD-listed-cong, listed-cong}
-use Rattle.recurrence.proofs.Cone.{Local, point-alike}
+use Rattle.recurrence.proofs.LocalStep.{Local, point-alike}
 use Rattle.recurrence.proofs.Runs.{Reached, finished-advanced}
 
 -- far m s says of section s that no difference has come to it after m steps. Such a family goes with the layout where what step m + 1 reads for s lies
