@@ -8,14 +8,9 @@ use Rattle.root.specs.Whole.{wholeRoot}
 use Rattle.root.proofs.WholeLaws.{whole-root-is, one-root, root-by-rest, root-below}
 use Rattle.root.specs.Root.{cutPlaces}
 use Rattle.root.proofs.Powers.{wide-places, wide-cut}
-use Rattle.root.specs.Steps.{LeavesRest, IsWidened, unitsOf, rootPattern}
+use Rattle.root.specs.Digits.{LeavesRest, IsWidened, unitsOf, rootPattern}
 use Rattle.root.proofs.root_bits.Statement.{statement}
 use Rattle.root.proofs.root_bits.Tie as tie
-
-at-least : (b d p : ℕ) → IsWidened b d p → 2 ^ 52 ≤ d * (1 + p % 2)
-at-least b d p w =
-    let one : 1 ≤ 1 + p % 2 = omega arith in
-    omega (arith, mul-le-mul-left d one, w .full)
 
 evened : (b d p : ℕ) → IsWidened b d p → d * (1 + p % 2) < 2 ^ 54
 evened b d p w =
@@ -52,7 +47,7 @@ whole-root-requires c κs =
     let b = c .before .args .b in
     let d = c .widened .result .digits in
     let p = c .widened .result .power in
-    (at-least b d p (c .widened .ensures), evened b d p (c .widened .ensures))
+    evened b d p (c .widened .ensures)
 
 -- the bound on the root, once it is taken
 short : (c : tie.After-whole-root) → c .whole-root .result .root < 2 ^ 53
