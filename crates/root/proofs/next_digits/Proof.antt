@@ -61,29 +61,29 @@ loop-holds c = omega arith
 bound : (c : tie.At-loop Inv-loop μ-loop) → c .loop .root < 2 ^ 53
 bound c = omega (arith, c .loop .inv .short, mul-le-mul-left (c .before .args .w .root + 1) (pow-mono (c .loop .inv .turned)), c .before .pre .short)
 
-mul-t : tie.Need-mul-t Inv-loop μ-loop
-mul-t c = omega (arith, bound (c .before))
+mul-down : tie.Need-mul-down Inv-loop μ-loop
+mul-down c = omega (arith, bound (c .before))
 
-add-t : tie.Need-add-t Inv-loop μ-loop
-add-t c = omega (arith, bound (c .before))
+add-down : tie.Need-add-down Inv-loop μ-loop
+add-down c = omega (arith, bound (c .before))
 
 mul-left : tie.Need-mul-left Inv-loop μ-loop
 mul-left c = omega arith
 
-mul-d : tie.Need-mul-d Inv-loop μ-loop
-mul-d c = omega (arith, bound (c .before))
+mul-trial : tie.Need-mul-trial Inv-loop μ-loop
+mul-trial c = omega (arith, bound (c .before))
 
-add-d : tie.Need-add-d Inv-loop μ-loop
-add-d c = omega (arith, bound (c .before))
+add-trial : tie.Need-add-trial Inv-loop μ-loop
+add-trial c = omega (arith, bound (c .before))
 
--- the digit taken is 0 or 1
-digit : (c : tie.Joined1 Inv-loop μ-loop) → c .if1 .take ≤ 1
-digit c = ⊎-elim (λ w. omega (arith, w .1)) (λ w. omega (arith, w .1)) (c .if1 .came)
+-- the digit is 0 or 1
+at-most-one : (c : tie.Joined1 Inv-loop μ-loop) → c .if1 .digit ≤ 1
+at-most-one c = ⊎-elim (λ w. omega (arith, w .1)) (λ w. omega (arith, w .1)) (c .if1 .came)
 
 mul-rest : tie.Need-mul-rest Inv-loop μ-loop
 mul-rest c =
     let a = c .before .before .before in
-    omega (arith, bound a, mul-le-mul-left (a .loop .root * 4 + 1) (digit (c .before)))
+    omega (arith, bound a, mul-le-mul-left (a .loop .root * 4 + 1) (at-most-one (c .before)))
 
 sub-rest : tie.Need-sub-rest Inv-loop μ-loop
 sub-rest c = ⊎-elim (λ w. rw (w .1) (omega (arith, w .0))) (λ w. rw (w .1) (omega arith)) (c .before .if1 .came)
@@ -92,7 +92,7 @@ mul-root : tie.Need-mul-root Inv-loop μ-loop
 mul-root c = omega (arith, bound (c .before .before .before))
 
 add-root : tie.Need-add-root Inv-loop μ-loop
-add-root c = omega (arith, bound (c .before .before .before), digit (c .before))
+add-root c = omega (arith, bound (c .before .before .before), at-most-one (c .before))
 
 add-i : tie.Need-add-i Inv-loop μ-loop
 add-i c = omega arith
@@ -118,11 +118,11 @@ next-digits-spec =
     Inv-loop
     μ-loop
     loop-holds
-    mul-t
-    add-t
+    mul-down
+    add-down
     mul-left
-    mul-d
-    add-d
+    mul-trial
+    add-trial
     mul-rest
     sub-rest
     mul-root

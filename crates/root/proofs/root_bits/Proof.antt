@@ -57,9 +57,6 @@ short c =
     let p = w .widened .result .power in
     root-lt (d * (1 + p % 2)) (c .whole-root .result .root) (c .whole-root .result .rest) (evened (w .before .args .b) d p (w .widened .ensures)) (c .whole-root .ensures)
 
-cut-down-requires : tie.Need-cut-down-requires
-cut-down-requires c κs = short c
-
 add-result : tie.Need-add-result
 add-result c = omega (arith, c .before .before .widened .ensures .most, short (c .before), c .cut-down .ensures)
 
@@ -78,7 +75,7 @@ root-bits-spec =
     (λ c. search needs)
     mul-m
     whole-root-requires
-    cut-down-requires
+    (λ c κs. search needs)
     (λ c. search needs)
     (λ c. search needs)
     add-result
