@@ -9,7 +9,7 @@ use lib.Ieee.{Float, nan, inf, fin, binary64, size, fits, isNan, ne, lt, div, of
 use lib.Ieee.Bits.{ofBits-fits, nanBits-above}
 use lib.Ieee.Compare.{differs-from-itself, nan-differs}
 use Rattle.root.specs.Root.{rootable, IsRoot, cutPlaces, rootUnits, rootOf}
-use Rattle.root.specs.Steps.{unitsAt, unitsOf, rootPattern}
+use Rattle.root.specs.Digits.{unitsAt, unitsOf, rootPattern}
 use Rattle.root.proofs.Patterns.{Counts, pattern-counts, units-pos, count-below, count-unique, plus-pattern, minus-zero-pattern}
 use Rattle.root.proofs.Lead.{lead, lead-low, lead-high, few, enough, not-many, units-count, units-held}
 use Rattle.root.proofs.Relation.{rootOf-is, root-is}

@@ -6,11 +6,12 @@ use native.Mathlib.Omega.{arith}
 use mathlib.Core.Bool.{Bool, true, false, not}
 use lib.Dec.{T, ltb, ltb→lt, nltb→le, lit≤, lit<}
 use lib.Pow.{pow-add, pow-mono, shl-lt}
-use lib.Ieee.{inf, binary64, size, odd, units, fits, le}
+use lib.Ieee.{inf, binary64, size, odd, units, fits}
 use lib.Ieee.Digits.{size-lt, size-le, size-reaches}
 use lib.Ieee.Fits.{odd-fits, cond-fits, inf-fits}
 use lib.Ieee.Exact.{units-val}
-use Rattle.root.specs.Whole.{IsWholeRoot, wholeRoot}
+use Rattle.root.specs.Whole.{wholeRoot}
+use Rattle.root.specs.Digits.{IsWholeRoot}
 use Rattle.root.proofs.WholeLaws.{whole-root-is, at-most-root, root-below}
 use Rattle.root.specs.Root.{cutPlaces, rootUnits}
 use Rattle.root.proofs.Powers.{four-pow, four-pos, pow-lt-back}

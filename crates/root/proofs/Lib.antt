@@ -1,5 +1,4 @@
 pub mod WholeLaws
-pub mod MoreDigits
 pub mod Powers
 pub mod Patterns
 pub mod Lead

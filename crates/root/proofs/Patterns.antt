@@ -13,7 +13,7 @@ use lib.Ieee.Fits.{and-l, and-r, down-pos, kept-lt}
 use lib.Ieee.Bits.{cond-no, ofBits-toBits}
 use lib.Ieee.Exact.{HasValue, odd-sign}
 use borrow.Author.Tests.{lt-leb}
-use Rattle.root.specs.Steps.{unitsAt, unitsOf}
+use Rattle.root.specs.Digits.{unitsAt, unitsOf}
 
 -- x is u of the smallest values, and its sign is s
 abbrev pub Counts : Float → Bool → ℕ → Type 0

@@ -1,4 +1,4 @@
--- Which values may be rooted: those with the sign clear, and -0. Assumes nothing.
+-- Which values may be rooted: those with the sign clear, and none below zero. Assumes nothing.
 use mathlib.Core.Path.{_≡_, ap}
 use mathlib.Core.Bool.{true, false, not}
 use Prim.Native.Nat.{ℕ, suc, _+_, _*_}
@@ -13,10 +13,6 @@ use Rattle.root.specs.Root.{rootable}
 pub plus-rootable : (m : ℕ) (e : ℤ) → rootable (fin false m e) ≡ true
 unfolding rootable lt ofBits
 plus-rootable m e = ap not (le-ltb (m * up e * 1) (0 * down e) (omega (arith, zero-mul (down e))))
-
-pub minus-zero-rootable : (e : ℤ) → rootable (fin true 0 e) ≡ true
-unfolding rootable lt ofBits
-minus-zero-rootable e = ap not (le-ltb 0 (0 * up e * 1 + 0 * down e) (omega (arith, zero-mul (up e), zero-mul (down e))))
 
 pub minus-not-rootable : (m : ℕ) (e : ℤ) → rootable (fin true (suc m) e) ≡ false
 unfolding rootable lt ofBits

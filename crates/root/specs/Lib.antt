@@ -1,5 +1,5 @@
 pub mod Whole
 pub mod Root
-pub mod Steps
+pub mod Digits
 pub mod Answer
 pub mod Figures

@@ -1,23 +1,42 @@
 -- `root::root` meets its contract: its two tests are question 23's. Assumes nothing.
-use mathlib.Core.Path.{sym, _∙_}
+use mathlib.Core.Path.{_≡_, sym, _∙_}
+use mathlib.Core.Bool.{true, false}
 use borrow.Author.Needs.{needs}
 use borrow.Author.Tests.{not-true, not-false}
-use Rattle.root.specs.Root.{rootable}
-use Rattle.root.specs.Answer.{rootAnswer}
+use lib.Ieee.{Float, lt}
+use lib.Ieee.Scale.{finite}
+use Rattle.fields.specs.Real.{zero64}
+use Rattle.root.specs.Root.{rootable, rootOf}
+use Rattle.root.specs.Answer.{refused, value, rootAnswer}
 use Rattle.root.proofs.root.Statement.{statement}
 use Rattle.root.proofs.root.Tie as tie
 
+-- the answer by question 23's two halves
+module _ (x : Float) where
+  not-finite : finite x ≡ false → refused 23 ≡ rootAnswer x
+  unfolding rootAnswer rootable
+  not-finite f = rw f
+
+  below-zero : finite x ≡ true → lt x zero64 ≡ true → refused 23 ≡ rootAnswer x
+  unfolding rootAnswer rootable
+  below-zero f l = rw (f, l)
+
+  rooted : finite x ≡ true → lt x zero64 ≡ false → value (rootOf x) ≡ rootAnswer x
+  unfolding rootAnswer rootable
+  rooted f l = rw (f, l)
+
 returns : tie.Need-returns
-unfolding rootAnswer rootable
-returns c = rw (sym (c .before .is-finite .ensures) ∙ not-true _ (c .if1 .taken))
+returns c = not-finite (c .before .before .args .x) (sym (c .before .is-finite .ensures) ∙ not-true _ (c .if1 .taken))
+
+-- the argument is finite, where the first test went on
+is-finite : (c : tie.Else1) → finite (c .before .before .args .x) ≡ true
+is-finite c = sym (c .before .is-finite .ensures) ∙ not-false _ (c .if1 .left)
 
 returns-2 : tie.Need-returns-2
-unfolding rootAnswer rootable
-returns-2 c = rw (sym (c .before .before .is-finite .ensures) ∙ not-false _ (c .before .if1 .left), c .if2 .taken)
+returns-2 c = below-zero (c .before .before .before .args .x) (is-finite (c .before)) (c .if2 .taken)
 
 returns-3 : tie.Need-returns-3
-unfolding rootAnswer rootable
-returns-3 c = rw (c .root-of .ensures, sym (c .before .before .before .is-finite .ensures) ∙ not-false _ (c .before .before .if1 .left), c .before .if2 .left)
+returns-3 c = rw (c .root-of .ensures) (rooted (c .before .before .before .before .args .x) (is-finite (c .before .before)) (c .before .if2 .left))
 
 pub root-spec : {M : Type 1} → statement M
 root-spec = tie.close (tie.spec (λ c κs. search needs) returns returns-2 (λ c κs. search needs) returns-3)

@@ -8,14 +8,9 @@ use Rattle.root.specs.Whole.{wholeRoot}
 use Rattle.root.proofs.WholeLaws.{whole-root-is, one-root, root-by-rest, root-below}
 use Rattle.root.specs.Root.{cutPlaces}
 use Rattle.root.proofs.Powers.{wide-places, wide-cut}
-use Rattle.root.specs.Steps.{LeavesRest, IsWidened, unitsOf, rootPattern}
+use Rattle.root.specs.Digits.{LeavesRest, IsWidened, unitsOf, rootPattern}
 use Rattle.root.proofs.root_bits.Statement.{statement}
 use Rattle.root.proofs.root_bits.Tie as tie
-
-at-least : (b d p : ℕ) → IsWidened b d p → 2 ^ 52 ≤ d * (1 + p % 2)
-at-least b d p w =
-    let one : 1 ≤ 1 + p % 2 = omega arith in
-    omega (arith, mul-le-mul-left d one, w .full)
 
 evened : (b d p : ℕ) → IsWidened b d p → d * (1 + p % 2) < 2 ^ 54
 evened b d p w =
@@ -52,7 +47,7 @@ whole-root-requires c κs =
     let b = c .before .args .b in
     let d = c .widened .result .digits in
     let p = c .widened .result .power in
-    (at-least b d p (c .widened .ensures), evened b d p (c .widened .ensures))
+    evened b d p (c .widened .ensures)
 
 -- the bound on the root, once it is taken
 short : (c : tie.After-whole-root) → c .whole-root .result .root < 2 ^ 53
@@ -61,9 +56,6 @@ short c =
     let d = w .widened .result .digits in
     let p = w .widened .result .power in
     root-lt (d * (1 + p % 2)) (c .whole-root .result .root) (c .whole-root .result .rest) (evened (w .before .args .b) d p (w .widened .ensures)) (c .whole-root .ensures)
-
-cut-down-requires : tie.Need-cut-down-requires
-cut-down-requires c κs = short c
 
 add-result : tie.Need-add-result
 add-result c = omega (arith, c .before .before .widened .ensures .most, short (c .before), c .cut-down .ensures)
@@ -83,7 +75,7 @@ root-bits-spec =
     (λ c. search needs)
     mul-m
     whole-root-requires
-    cut-down-requires
+    (λ c κs. search needs)
     (λ c. search needs)
     (λ c. search needs)
     add-result

@@ -1,4 +1,4 @@
--- `root::root_of` meets its contract: each return is a law of `specs/AnswerLaws.antt`, taken from the argument's pattern to the argument. Assumes nothing.
+-- `root::root_of` meets its contract: each return is a law of `proofs/AnswerLaws.antt`, taken from the argument's pattern to the argument. Assumes nothing.
 use mathlib.Core.Path.{_≡_, refl, sym, ap, _∙_, subst}
 use Prim.Native.Nat.{ℕ, _<_}
 use native.Mathlib.Omega.{arith}

@@ -7,14 +7,14 @@ use borrow.Author.Needs.{needs}
 use lib.Pow.{pow-add, pow-pos}
 use lib.Dec.{lit<}
 use lib.Count.{leadingZeros, leading-top}
-use Rattle.root.specs.Steps.{IsWidened, unitsAt, unitsOf}
+use Rattle.root.specs.Digits.{IsWidened, unitsAt, unitsOf}
 use Rattle.root.proofs.Powers.{pow-lt-back}
 use Rattle.root.proofs.widened.Statement.{statement}
 use Rattle.root.proofs.widened.Tie as tie
 
 -- a t below 2 ^ 52 with z leading zeros of 64, moved up by z - 11
 record Lifted (t z : ℕ) : Type 0 where
-  enough : 11 ≤ z
+  enough : 12 ≤ z
   shift : z - 11 ≤ 52
   full : 2 ^ 52 ≤ t * 2 ^ (z - 11)
   bound : t * 2 ^ (z - 11) < 2 ^ 53
@@ -69,7 +69,7 @@ cast-shift : tie.Need-cast-shift
 cast-shift c = omega (arith, lifts c .shift)
 
 sub-shift : tie.Need-sub-shift
-sub-shift c = lifts c .enough
+sub-shift c = omega (arith, lifts c .enough)
 
 shl-t8 : tie.Need-shl-t8
 shl-t8 c = omega (arith, lifts c .shift)
