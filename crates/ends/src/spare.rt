@@ -10,7 +10,13 @@ use wave::Sums;
 
 // The sums of each node, from those before any K; and K at both ends of each pipe into the spare, where the
 // flows will be.
-fn keep_k(job: &[u8], constant: [Sums; 32], heads: &[f64], flows: &[f64], spare: &mut [f64]) -> [Sums; 32]
+fn keep_k(
+    job: &[u8],
+    constant: [Sums; 32],
+    heads: &[f64],
+    flows: &[f64],
+    spare: &mut [f64],
+) -> [Sums; 32]
     requires { ⌜ (Lent (now job) (now heads) (now flows)) × (constant ≡ constantSums (now job))
         × (pipeCount (pipeTable (now job)) * 4 ≤ length (now spare)) ⌝ }
     ensures { λ r. ⌜ (let end = pipeCount (pipeTable (now (job .entry))) * 4 in

@@ -16,13 +16,13 @@ pub struct Ended {
     pub found: Scan,
 }
 
-// Does `count` steps after `done`, fewer only where one stops the run; `constant` has the sums of the nodes before
-// any K.
+// Does `count` steps after `done`, fewer only where one stops the run; `sums` has the sums of the nodes before any
+// K.
 pub fn run(
     job: &[u8],
     done: u64,
     count: u64,
-    constant: [Sums; 32],
+    sums: [Sums; 32],
     heads: &mut [f64],
     flows: &mut [f64],
     highest: &mut [f64],
@@ -30,13 +30,13 @@ pub fn run(
     spare: &mut [f64],
 ) -> Ended
     requires { ⌜ (Ready (now job) (lent heads flows highest lowest spare))
-        × (done + count ≤ 1000000) × (constant ≡ constantSums (now job)) ⌝ }
+        × (done + count ≤ 1000000) × (sums ≡ constantSums (now job)) ⌝ }
     ensures { λ r. ⌜ Runs (now (job .entry)) done count (before heads flows highest lowest spare)
         (after heads flows highest lowest spare) r ⌝ }
 {
     let mut i = 0;
     while i < count {
-        let ended = step::one_step(job, done + i, constant, heads, flows, highest, lowest, spare);
+        let ended = step::one_step(job, done + i, sums, heads, flows, highest, lowest, spare);
         let found = ended.found;
         if step::stops(found) {
             return ended;

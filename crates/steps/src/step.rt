@@ -19,12 +19,12 @@ pub(super) fn stops(found: Scan) -> bool
     }
 }
 
-// The step after `done` steps; `constant` has the sums of the nodes before any K. Where the check finds a fault
+// The step after `done` steps; `sums` has the sums of the nodes before any K. Where the check finds a fault
 // nothing but the spare is written.
 pub(super) fn one_step(
     job: &[u8],
     done: u64,
-    constant: [Sums; 32],
+    sums: [Sums; 32],
     heads: &mut [f64],
     flows: &mut [f64],
     highest: &mut [f64],
@@ -32,13 +32,13 @@ pub(super) fn one_step(
     spare: &mut [f64],
 ) -> Ended
     requires { ⌜ (inner.Ready (now job) (lent heads flows highest lowest spare))
-        × (done + 1 ≤ 1000000) × (constant ≡ constantSums (now job)) ⌝ }
+        × (done + 1 ≤ 1000000) × (sums ≡ constantSums (now job)) ⌝ }
     ensures { λ r. ⌜ inner.Runs (now (job .entry)) done 1 (before heads flows highest lowest spare)
         (after heads flows highest lowest spare) r ⌝ }
 {
     let after = done + 1;
     let step = after as usize;
-    ends::spare::write_ends(job, step, constant, heads, flows, spare);
+    ends::spare::write_ends(job, step, sums, heads, flows, spare);
     let found = march::check::check(job, heads, flows, spare);
     if stops(found) {
         return Ended { steps: done, found };

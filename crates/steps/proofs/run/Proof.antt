@@ -9,11 +9,11 @@ use Rattle.steps.proofs.run.Statement.{statement}
 use Rattle.steps.proofs.run.Tie as tie
 
 abbrev Inv-loop : tie.InvT-loop
-Inv-loop job done count constant heads₀ flows₀ highest₀ lowest₀ spare₀ i₀ heads flows highest lowest spare i =
+Inv-loop job done count sums heads₀ flows₀ highest₀ lowest₀ spare₀ i₀ heads flows highest lowest spare i =
     Underway job done count i (gathered heads₀ flows₀ highest₀ lowest₀ spare₀) (gathered heads flows highest lowest spare)
 
 abbrev μ-loop : tie.MeasureT-loop
-μ-loop job done count constant heads₀ flows₀ highest₀ lowest₀ spare₀ i₀ heads flows highest lowest spare i = count - i
+μ-loop job done count sums heads₀ flows₀ highest₀ lowest₀ spare₀ i₀ heads flows highest lowest spare i = count - i
 
 loop-holds : tie.Need-loop-holds Inv-loop μ-loop
 loop-holds c = way-none _ _ _ _

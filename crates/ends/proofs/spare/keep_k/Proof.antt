@@ -78,7 +78,7 @@ loop-again c =
       search needs,
       walk-more _ _ (inv .1) _ is (here turn),
       sums-more (withT _) _ _ withK (b-adds _) _ _ (start (turn .before) .pre .0 .accepted) _ (pipe at) (inv .2) (first .with-k .ensures) (second .with-k2 .ensures)
-      at-start at-finish,
+          at-start at-finish,
       simp length-set (inv .3),
       k-more _ _ _ (turn .before .loop .spare) (turn .before .loop .p) _ _ (room turn) (inv .4) (rw is at at-start) (rw is at at-finish),
       k-rest (start (turn .before) .args .spare .now) (turn .before .loop .spare) (turn .before .loop .p) _ _ (inv .5),
