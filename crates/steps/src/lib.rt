@@ -36,12 +36,13 @@ pub fn run(
 {
     let mut i = 0;
     while i < count {
+        let next = i + 1;
         let ended = step::one_step(job, done + i, sums, heads, flows, highest, lowest, spare);
         let found = ended.found;
         if step::stops(found) {
             return ended;
         }
-        i += 1;
+        i = next;
     }
     let steps = done + i;
     Ended {
