@@ -7,11 +7,13 @@ use native.Mathlib.Numerals.{add-one}
 use native.Mathlib.Omega.{arith}
 use lib.Dec.{eqb, eqb·zero-suc, eqb·suc-zero, eqb·suc-suc}
 use lib.ListN.{getD, set, take, replicate}
-use lib.Ieee.{Float, nan}
+use lib.Ieee.{Float}
 use borrow.Author.Tests.{eqb-true, eqb-false}
 use Rattle.fields.specs.Real.{_⊞_, zero64}
 use Rattle.loops.proofs.Fill.{fill-cong}
+use Rattle.wave.specs.declared.Sums.{Sums}
 use Rattle.wave.specs.Wave.{sumFrom, sumsOf}
+use Rattle.wave.specs.Adding.{noSums, withK, withS}
 use Rattle.job.specs.Job.{Laid, laid}
 use Rattle.job.specs.Format.{jobOf, pipeTable, pipeCount}
 use Rattle.loops.specs.Loops.{listed}
@@ -19,7 +21,7 @@ use Rattle.job.specs.Questions.{Accepted}
 use Rattle.recurrence.specs.Step.{inputs, along, kAtStart, kAtFinish, endsOf, sumsAt, headAt}
 use Rattle.loops.proofs.Listed.{getD-listed, listed-cong}
 use Rattle.recurrence.proofs.StepLaws.{withPipe, sum-next}
-use Rattle.ends.specs.Ends.{LaidPipe, nodeSums, old, flowSums, constantSums, overNodes, headBy, nodeHeads}
+use Rattle.ends.specs.Ends.{LaidPipe, old, constantSums, nodeSums, overNodes, headBy, nodeHeads}
 use Rattle.ends.proofs.Order.{laid-pipe, laid-all}
 use Rattle.ends.proofs.Accept.{few-nodes, within}
 
@@ -32,58 +34,116 @@ set-listed (suc n) f (suc i) v =
     rw (eqb·suc-zero i)
     (ap (λ r. f 0 ∷ r) (set-listed n (λ k. f (suc k)) i v ∙ listed-cong n _ _ (λ k _. rw (eqb·suc-suc i k))))
 
--- two ends apart, stored one after the other
-ends-apart : (g : ℕ → Float) (s f k : ℕ) (x y : Float) → eqb s f ≡ false
-    → cond (eqb f k) (g f ⊞ y) (cond (eqb s k) (g s ⊞ x) (g k)) ≡ cond (eqb s k) (g k ⊞ x) (cond (eqb f k) (g k ⊞ y) (g k))
-ends-apart g s f k x y h = go (eqb s k) refl (eqb f k) refl
-  where
-    go : (a : Bool) → eqb s k ≡ a → (b : Bool) → eqb f k ≡ b
-        → cond b (g f ⊞ y) (cond a (g s ⊞ x) (g k)) ≡ cond a (g k ⊞ x) (cond b (g k ⊞ y) (g k))
-    go true p true q = absurd (eqb-false s f h (eqb-true s k p ∙ sym (eqb-true f k q)))
-    go true p false q = rw (eqb-true s k p)
-    go false p true q = rw (eqb-true f k q)
-    go false p false q = refl
+module _ {A : Type 0} (add : A → Float → A) where
+  -- an entry of the list added to
+  add-at : (n : ℕ) (g : ℕ → A) (s : ℕ) (x : Float) (d : A) → s < n
+      → set (listed n g) s (add (getD (listed n g) s d) x) ≡ listed n (λ k. cond (eqb s k) (add (g k) x) (g k))
+  add-at n g s x d h =
+      rw (getD-listed n g s d h) (set-listed n g s (add (g s) x) ∙ listed-cong n _ _ (λ k _. go k (eqb s k) refl))
+    where
+      go : (k : ℕ) (c : Bool) → eqb s k ≡ c → cond c (add (g s) x) (g k) ≡ cond c (add (g k) x) (g k)
+      go k true e = rw (eqb-true s k e)
+      go k false e = refl
+
+  -- two ends apart: a node has one of them at most
+  ends-apart : (v : A) (s f k : ℕ) (x y : Float) → eqb s f ≡ false
+      → cond (eqb f k) (add (cond (eqb s k) (add v x) v) y) (cond (eqb s k) (add v x) v) ≡ cond (eqb s k) (add v x) (cond (eqb f k) (add v y) v)
+  ends-apart v s f k x y h = go (eqb s k) refl (eqb f k) refl
+    where
+      go : (a : Bool) → eqb s k ≡ a → (b : Bool) → eqb f k ≡ b
+          → cond b (add (cond a (add v x) v) y) (cond a (add v x) v) ≡ cond a (add v x) (cond b (add v y) v)
+      go true p true q = absurd (eqb-false s f h (eqb-true s k p ∙ sym (eqb-true f k q)))
+      go true p false q = refl
+      go false p b q = refl
+
+-- a row of 32 nodes, where the entry of each has the sum over its ends
+module _ {A : Type 0} (entry : ℕ → Float → A) (a b : Laid → Float) where
+  unfoldable pub summed : List Laid → List A
+  summed ls = listed 32 (λ y. entry y (sumFrom zero64 (endsOf a b y ls)))
+
+  -- with the ends of the next pipe l
+  pub sums-more :
+      (add : A → Float → A) → ((y : ℕ) (x k : Float) → add (entry y x) k ≡ entry y (x ⊞ k)) → (d : A) (job : List ℕ) (ok : Accepted job) (l : Laid)
+      (is : LaidPipe job l) {sums : List A} {u v : A} {x y : Float} → sums ≡ summed (take (is .number) (laid (jobOf job)))
+      → u ≡ add (getD sums (l .pipe .start) d) x → v ≡ add (getD (set sums (l .pipe .start) u) (l .pipe .finish) d) y → x ≡ a l → y ≡ b l
+      → set (set sums (l .pipe .start) u) (l .pipe .finish) v ≡ summed (take (is .number + 1) (laid (jobOf job)))
+  unfolding summed withPipe
+  sums-more add adds d job ok l is {x = x} {y = y} e eu ev ex ey =
+      let lies = within job ok l is in
+      let ls = laid (jobOf job) in
+      let p = is .number in
+      let X : ℕ → Float = λ k. sumFrom zero64 (endsOf a b k (take p ls)) in
+      let g : ℕ → A = λ k. entry k (X k) in
+      let s = l .pipe .start in
+      let f = l .pipe .finish in
+      rw (ev, eu, e, add-at add 32 g s x d (lies .start-low))
+      (add-at add 32 (λ k. cond (eqb s k) (add (g k) x) (g k)) f y d (lies .finish-low)
+      ∙ listed-cong 32 _ _
+      (λ k _. ends-apart add (g k) s f k x y (lies .apart)
+      ∙ go k (X k) (eqb s k) (eqb f k)
+      ∙ rw (add-one p, ex, ey) (ap (entry k) (sym (sum-next a b k ls p l zero64 (laid-pipe job l is))))))
+    where
+      go : (k : ℕ) (z : Float) (c d : Bool) → cond c (add (entry k z) x) (cond d (add (entry k z) y) (entry k z)) ≡ entry k (cond c (z ⊞ x) (cond d (z ⊞ y) z))
+      go k z true d = adds k z x
+      go k z false true = adds k z y
+      go k z false false = refl
+
+  -- after every pipe
+  pub sums-all :
+      (job : List ℕ) (p : ℕ) {sums : List A} → sums ≡ summed (take p (laid (jobOf job))) → pipeCount (pipeTable job) ≡ p
+      → sums ≡ summed (laid (jobOf job))
+  sums-all job p h e = h ∙ rw (← e, laid-all job)
+
+-- ---- T with +0 for B, and then B
+
+-- T of a node, and the sums of a node that has it
+abbrev pub tOf : List ℕ → ℕ → Float
+tOf job y = sumFrom zero64 (endsOf (λ l. l .pipe .S) (λ l. l .pipe .S) y (laid (jobOf job)))
+
+abbrev pub onlyT : ℕ → Float → Sums
+onlyT y T = record { b = zero64; t = T }
+
+abbrev pub withT : List ℕ → ℕ → Float → Sums
+withT job y B = record { b = B; t = tOf job y }
+
+pub t-adds : (y : ℕ) (x S : Float) → withS (onlyT y x) S ≡ onlyT y (x ⊞ S)
+unfolding withS
+t-adds y x S = refl
+
+pub b-adds : (job : List ℕ) (y : ℕ) (x K : Float) → withK (withT job y x) K ≡ withT job y (x ⊞ K)
+unfolding withK
+b-adds job y x K = refl
 
 -- before any pipe each sum is +0
-pub sums-none : (a b : Laid → Float) → replicate 32 zero64 ≡ nodeSums a b []
-unfolding nodeSums endsOf sumFrom listed
-sums-none a b = refl
+pub t-none : replicate 32 noSums ≡ summed onlyT (λ l. l .pipe .S) (λ l. l .pipe .S) []
+unfolding summed endsOf sumFrom listed noSums
+t-none = refl
 
--- with the ends of the next pipe l
-pub sums-more :
-    (job : List ℕ) (ok : Accepted job) (l : Laid) (is : LaidPipe job l) (a b : Laid → Float) {sums next : List Float} {x y : Float}
-    → sums ≡ nodeSums a b (take (is .number) (laid (jobOf job)))
-    → next ≡ set (set sums (l .pipe .start) (getD sums (l .pipe .start) nan ⊞ x)) (l .pipe .finish) (getD sums (l .pipe .finish) nan ⊞ y)
-    → x ≡ a l → y ≡ b l → next ≡ nodeSums a b (take (is .number + 1) (laid (jobOf job)))
-unfolding nodeSums withPipe
-sums-more job ok l is a b {x = x} {y = y} e en ex ey =
-    let lies = within job ok l is in
-    let ls = laid (jobOf job) in
-    let p = is .number in
-    let g : ℕ → Float = λ k. sumFrom zero64 (endsOf a b k (take p ls)) in
-    let s = l .pipe .start in
-    let t = l .pipe .finish in
-    en
-    ∙ rw (e, getD-listed 32 g s nan (lies .start-low), getD-listed 32 g t nan (lies .finish-low), set-listed 32 g s (g s ⊞ x))
-    (set-listed 32 (λ k. cond (eqb s k) (g s ⊞ x) (g k)) t (g t ⊞ y)
-    ∙ listed-cong 32 _ _ (λ k _. ends-apart g s t k x y (lies .apart) ∙ rw (add-one p, ex, ey) (sym (sum-next a b k ls p l zero64 (laid-pipe job l is)))))
+pub t-all : (job : List ℕ) → summed onlyT (λ l. l .pipe .S) (λ l. l .pipe .S) (laid (jobOf job)) ≡ constantSums job
+unfolding summed constantSums sumsOf sumFrom
+t-all job = refl
 
--- after every pipe
-pub sums-all :
-    (job : List ℕ) (a b : Laid → Float) (p : ℕ) {sums : List Float} → sums ≡ nodeSums a b (take p (laid (jobOf job))) → pipeCount (pipeTable job) ≡ p
-    → sums ≡ nodeSums a b (laid (jobOf job))
-sums-all job a b p h e = h ∙ rw (← e, laid-all job)
+-- before any pipe B of each node is +0
+pub b-none : (job : List ℕ) (a b : Laid → Float) → constantSums job ≡ summed (withT job) a b []
+unfolding summed constantSums sumsOf endsOf sumFrom
+b-none job a b = refl
 
--- the head of a node from the rows of sums is the recurrence's, and so is the row of heads
+pub b-all :
+    (job : List ℕ) (heads flows : List Float)
+    → summed (withT job) (kAtStart (inputs (jobOf job) 0) (old job heads flows)) (kAtFinish (inputs (jobOf job) 0) (old job heads flows)) (laid (jobOf job))
+    ≡ nodeSums job heads flows
+unfolding summed nodeSums sumsAt sumsOf
+b-all job heads flows = refl
+
+-- the head of a node from the row of sums is the recurrence's, and so is the row of heads
 head-by-sums : (job : List ℕ) (n : ℕ) (heads flows : List Float) (y : ℕ) → y < 32
-    → headBy job n (flowSums job heads flows) (constantSums job) y ≡ headAt (laid (jobOf job)) (inputs (jobOf job) n) (old job heads flows) y
-unfolding flowSums constantSums nodeSums headAt sumsAt sumsOf inputs along kAtStart kAtFinish
-head-by-sums job n heads flows y l =
-    rw (getD-listed 32 _ y nan l, getD-listed 32 _ y nan l)
+    → headBy job n (nodeSums job heads flows) y ≡ headAt (laid (jobOf job)) (inputs (jobOf job) n) (old job heads flows) y
+unfolding nodeSums headAt sumsAt sumsOf inputs along kAtStart kAtFinish
+head-by-sums job n heads flows y l = rw (getD-listed 32 _ y _ l)
 
-pub heads-by-sums : (job : List ℕ) (ok : Accepted job) (n : ℕ) (heads flows : List Float) {b t row : List Float}
-    → b ≡ flowSums job heads flows → t ≡ constantSums job → row ≡ overNodes job (headBy job n b t) → row ≡ nodeHeads job n heads flows
+pub heads-by-sums : (job : List ℕ) (ok : Accepted job) (n : ℕ) (heads flows : List Float) {sums : List Sums} {row : List Float}
+    → sums ≡ nodeSums job heads flows → row ≡ overNodes job (headBy job n sums) → row ≡ nodeHeads job n heads flows
 unfolding nodeHeads
-heads-by-sums job ok n heads flows eb et e =
+heads-by-sums job ok n heads flows es e =
     let few = few-nodes job ok in
-    e ∙ rw (eb, et) (fill-cong _ _ _ 0 _ (λ y l. head-by-sums job n heads flows y (omega arith)))
+    e ∙ rw es (fill-cong _ _ _ 0 _ (λ y l. head-by-sums job n heads flows y (omega arith)))

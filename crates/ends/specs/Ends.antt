@@ -1,6 +1,6 @@
 -- What the functions of this crate work out, in the recurrence's own terms. Inner definitions: no public call cites them.
 use mathlib.Core.Path.{_≡_}
-use mathlib.Core.List.{List}
+use mathlib.Core.List.{List, []}
 use mathlib.Core.Bool.{cond}
 use Prim.Native.Nat.{ℕ, zero, suc, _≤_, _<_}
 use lib.Dec.{eqb}
@@ -10,14 +10,15 @@ use Rattle.fields.specs.Real.{zero64}
 use Rattle.loops.specs.Loops.{listed}
 use Rattle.loops.specs.Fill.{fill}
 use Rattle.wave.specs.declared.HeadFlow.{HeadFlow}
-use Rattle.wave.specs.Wave.{sumFrom, startEnd, finishEnd}
+use Rattle.wave.specs.declared.Sums.{Sums}
+use Rattle.wave.specs.Wave.{sumsOf, startEnd, finishEnd}
 use Rattle.wave.specs.Nodes.{nodeHead}
 use Rattle.job.specs.Job.{Laid, laid, sections}
 use Rattle.job.specs.Format.{jobOf, pipeTable, nodeTable, pipeCount, pipeIn, nodeCount}
 use Rattle.job.specs.FromTables.{firstsOf}
 use Rattle.job.specs.Questions.{Accepted}
 use Rattle.recurrence.specs.State.{State}
-use Rattle.recurrence.specs.Step.{Inputs, inputs, nodeNow, kAtStart, kAtFinish, endsOf, headAt, located, newAt, between}
+use Rattle.recurrence.specs.Step.{Inputs, inputs, nodeNow, kAtStart, kAtFinish, endsOf, sumsAt, headAt, located, newAt, between}
 use Rattle.ends.specs.declared.laid.Laid as Code
 
 -- ---- the laid pipes, counted from the first
@@ -58,24 +59,20 @@ pub record Lent (job : List ℕ) (heads flows : List Float) : Type 0 where
 
 -- ---- the nodes' sums and heads, in rows of 32
 
-unfoldable pub nodeSums : (Laid → Float) → (Laid → Float) → List Laid → List Float
-nodeSums atStart atFinish ls = listed 32 (λ y. sumFrom zero64 (endsOf atStart atFinish y ls))
+-- the sums of each node before any K: T, and +0 for B
+unfoldable pub constantSums : List ℕ → List Sums
+constantSums job = listed 32 (λ y. sumsOf [] (endsOf (λ l. l .pipe .S) (λ l. l .pipe .S) y (laid (jobOf job))))
 
--- B and T of each node; K turns on no node, so the inputs at any step serve
-unfoldable pub flowSums : List ℕ → List Float → List Float → List Float
-flowSums job heads flows =
-    let f = inputs (jobOf job) 0 in
-    nodeSums (kAtStart f (old job heads flows)) (kAtFinish f (old job heads flows)) (laid (jobOf job))
-
-unfoldable pub constantSums : List ℕ → List Float
-constantSums job = nodeSums (λ l. l .pipe .S) (λ l. l .pipe .S) (laid (jobOf job))
+-- the sums of each node; K turns on no node, so the inputs at any step serve
+unfoldable pub nodeSums : List ℕ → List Float → List Float → List Sums
+nodeSums job heads flows = listed 32 (sumsAt (laid (jobOf job)) (inputs (jobOf job) 0) (old job heads flows))
 
 -- H of each node
 abbrev pub overNodes : List ℕ → (ℕ → Float) → List Float
 overNodes job f = fill f (replicate 32 zero64) 0 (nodeCount (nodeTable job))
 
-abbrev pub headBy : List ℕ → ℕ → List Float → List Float → ℕ → Float
-headBy job n b t y = nodeHead (nodeNow (jobOf job) n y) record { b = getD b y nan; t = getD t y nan }
+abbrev pub headBy : List ℕ → ℕ → List Sums → ℕ → Float
+headBy job n sums y = nodeHead (nodeNow (jobOf job) n y) (getD sums y record { b = nan; t = nan })
 
 unfoldable pub nodeHeads : List ℕ → ℕ → List Float → List Float → List Float
 nodeHeads job n heads flows = overNodes job (headAt (laid (jobOf job)) (inputs (jobOf job) n) (old job heads flows))

@@ -6,10 +6,9 @@ ghost use Rattle.ends.specs.Ends.{overNodes, headBy};
 use wave::Sums;
 
 // H of each node at step n, from its sums. The place of a schedule is carried along.
-pub fn node_heads(job: &[u8], n: usize, b: &[f64; 32], t: &[f64; 32]) -> [f64; 32]
+pub(super) fn node_heads(job: &[u8], n: usize, sums: [Sums; 32]) -> [f64; 32]
     requires { ⌜ (Accepted (now job)) × (1 ≤ n) ⌝ }
-    ensures { λ r. ⌜ r ≡ overNodes (now (job .entry))
-        (headBy (now (job .entry)) n (now (b .entry)) (now (t .entry))) ⌝ }
+    ensures { λ r. ⌜ r ≡ overNodes (now (job .entry)) (headBy (now (job .entry)) n sums) ⌝ }
 {
     let nodes = job::pairs::table(job, 1);
     let schedules = job::pairs::table(job, 4);
@@ -19,8 +18,7 @@ pub fn node_heads(job: &[u8], n: usize, b: &[f64; 32], t: &[f64; 32]) -> [f64; 3
     let mut y = 0;
     while y < count {
         let node = job::nodes::node_at(nodes, schedules, y, place, n);
-        let sums = Sums { b: b[y], t: t[y] };
-        heads[y] = wave::node_head(node, sums);
+        heads[y] = wave::node_head(node, sums[y]);
         place = job::nodes::next_place(nodes, y, place);
         y += 1;
     }

@@ -5,9 +5,10 @@ ghost use Rattle.ends.specs.Ends.{constantSums};
 ghost use Rattle.recurrence.specs.Slices.{lent, before, after};
 ghost use Rattle.steps.specs.Steps.{Ready, Runs};
 
-pub mod step;
+mod step;
 
 use rows::Scan;
+use wave::Sums;
 
 // How a run ended: the steps done in all, and what stopped it.
 pub struct Ended {
@@ -15,12 +16,13 @@ pub struct Ended {
     pub found: Scan,
 }
 
-// Does `count` steps after `done`, fewer only where one stops the run; t has T of each node.
+// Does `count` steps after `done`, fewer only where one stops the run; `sums` has the sums of the nodes before any
+// K.
 pub fn run(
     job: &[u8],
     done: u64,
     count: u64,
-    t: &[f64; 32],
+    sums: [Sums; 32],
     heads: &mut [f64],
     flows: &mut [f64],
     highest: &mut [f64],
@@ -28,18 +30,19 @@ pub fn run(
     spare: &mut [f64],
 ) -> Ended
     requires { ⌜ (Ready (now job) (lent heads flows highest lowest spare))
-        × (done + count ≤ 1000000) × (now t ≡ constantSums (now job)) ⌝ }
+        × (done + count ≤ 1000000) × (sums ≡ constantSums (now job)) ⌝ }
     ensures { λ r. ⌜ Runs (now (job .entry)) done count (before heads flows highest lowest spare)
         (after heads flows highest lowest spare) r ⌝ }
 {
     let mut i = 0;
     while i < count {
-        let ended = step::one_step(job, done + i, t, heads, flows, highest, lowest, spare);
+        let next = i + 1;
+        let ended = step::one_step(job, done + i, sums, heads, flows, highest, lowest, spare);
         let found = ended.found;
         if step::stops(found) {
             return ended;
         }
-        i += 1;
+        i = next;
     }
     let steps = done + i;
     Ended {

@@ -6,9 +6,10 @@ ghost use Rattle.recurrence.specs.Slices.{lent, before, after};
 ghost use Rattle.steps.specs.Steps as inner;
 use super::Ended;
 use rows::Scan;
+use wave::Sums;
 
 // Whether a scan found a fault.
-pub fn stops(found: Scan) -> bool
+pub(super) fn stops(found: Scan) -> bool
     ensures { λ r. ⌜ r ≡ inner.stops found ⌝ }
 {
     match found {
@@ -18,12 +19,12 @@ pub fn stops(found: Scan) -> bool
     }
 }
 
-// The step after `done` steps; t has T of each node. Where the check finds a fault nothing but the spare is
-// written.
-pub fn one_step(
+// The step after `done` steps; `sums` has the sums of the nodes before any K. Where the check finds a fault
+// nothing but the spare is written.
+pub(super) fn one_step(
     job: &[u8],
     done: u64,
-    t: &[f64; 32],
+    sums: [Sums; 32],
     heads: &mut [f64],
     flows: &mut [f64],
     highest: &mut [f64],
@@ -31,13 +32,13 @@ pub fn one_step(
     spare: &mut [f64],
 ) -> Ended
     requires { ⌜ (inner.Ready (now job) (lent heads flows highest lowest spare))
-        × (done + 1 ≤ 1000000) × (now t ≡ constantSums (now job)) ⌝ }
+        × (done + 1 ≤ 1000000) × (sums ≡ constantSums (now job)) ⌝ }
     ensures { λ r. ⌜ inner.Runs (now (job .entry)) done 1 (before heads flows highest lowest spare)
         (after heads flows highest lowest spare) r ⌝ }
 {
     let after = done + 1;
     let step = after as usize;
-    ends::spare::write_ends(job, step, t, heads, flows, spare);
+    ends::spare::write_ends(job, step, sums, heads, flows, spare);
     let found = march::check::check(job, heads, flows, spare);
     if stops(found) {
         return Ended { steps: done, found };

@@ -124,8 +124,8 @@ fn carry_on(
         left (after heads flows highest lowest spare) r
         ≡ called (now (job .entry)) old (steps j count done (stateIn j old))) ⌝ }
 {
-    let t = ends::sums::constant_sums(job);
-    let ended = steps::run(job, done, count, &t, heads, flows, highest, lowest, spare);
+    let sums = ends::sums::constant_sums(job);
+    let ended = steps::run(job, done, count, sums, heads, flows, highest, lowest, spare);
     state::clear_spare(job, spare);
     answer_of(ended)
 }

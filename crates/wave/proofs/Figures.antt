@@ -2,7 +2,8 @@
 use mathlib.Core.Path.{refl}
 use lib.Ieee.{ofBits, toBits, ofInt, add, sub, mul, div, neg, lt, eq}
 use Rattle.root.specs.Root.{rootOf}
-use Rattle.wave.specs.Wave.{magnitude, fromAbove, fromBelow, inner, finishK, startK, finishEnd, startEnd, sumFrom, sumsOf, noSums, added}
+use Rattle.wave.specs.Wave.{magnitude, fromAbove, fromBelow, inner, finishK, startK, finishEnd, startEnd, sumFrom, sumsOf}
+use Rattle.wave.specs.Adding.{noSums, withK, withS}
 use Rattle.wave.specs.Nodes.{rooted, valveW, valveY, orificeArgument, orificeRate, orificeFlow, valveFlow, pumpH, pumpY, pumpArgument, liftFlow, pumpFlow, headLess, headMore, judged, nodeHead}
 use Rattle.wave.specs.Figures.{BenchFigures, WaveFigures, NodeFigures}
 
@@ -23,7 +24,7 @@ bench-figures = record {
 }
 
 pub wave-figures : WaveFigures
-unfolding magnitude fromAbove fromBelow inner finishK startK finishEnd startEnd sumFrom sumsOf noSums added ofBits toBits ofInt add sub mul div neg lt eq
+unfolding magnitude fromAbove fromBelow inner finishK startK finishEnd startEnd sumFrom sumsOf noSums withK withS ofBits toBits ofInt add sub mul div neg lt eq
 wave-figures = record {
   above = refl;
   below = refl;

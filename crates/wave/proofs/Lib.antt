@@ -1,2 +1,1 @@
-pub mod SumsLaws
 pub mod Figures

@@ -11,7 +11,8 @@ use Rattle.wave.specs.declared.Sums.{Sums}
 use Rattle.wave.specs.declared.Node.the-variants.{Junction, Reservoir, Valve, Pump}
 use Rattle.wave.specs.declared.Discharge.{Discharge}
 use Rattle.wave.specs.declared.Discharge.the-variants.{Flow, NotFinite}
-use Rattle.wave.specs.Wave.{magnitude, fromAbove, fromBelow, inner, finishK, startK, finishEnd, startEnd, sumsOf, noSums, added}
+use Rattle.wave.specs.Wave.{magnitude, fromAbove, fromBelow, inner, finishK, startK, finishEnd, startEnd, sumsOf}
+use Rattle.wave.specs.Adding.{noSums, withK, withS}
 use Rattle.wave.specs.Nodes.{valveW, orificeArgument, orificeFlow, valveFlow, pumpH, liftFlow, pumpFlow, headLess, headMore, nodeHead}
 
 -- the f64 nearest n, nearest n / 10 and n / 2^k; the f64 2^k; the f64 of a bit pattern
@@ -87,10 +88,10 @@ pub record WaveFigures : Type 0 where
   pub sums-zero-T : sumsOf (neg (num 0) ∷ []) (neg (num 0) ∷ []) .t is num 0
   pub sums-none-B : sumsOf [] [] .b is num 0
   pub sums-none-T : sumsOf [] [] .t is num 0
-  pub added-from-zero-B : added noSums (neg (num 0)) (num 2) .b is num 0
-  pub added-from-zero-T : added noSums (neg (num 0)) (num 2) .t is num 2
-  pub added-last-B : added (sums (power 53) (num 1)) (num 1) (num 2) .b is power 53
-  pub added-last-T : added (sums (power 53) (num 1)) (num 1) (num 2) .t is num 3
+  pub added-from-zero-B : withK noSums (neg (num 0)) .b is num 0
+  pub added-from-zero-T : withS noSums (num 2) .t is num 2
+  pub added-last-B : withK (sums (power 53) (num 1)) (num 1) .b is power 53
+  pub added-last-T : withS (sums (power 53) (num 1)) (num 2) .t is num 3
 
 pub record NodeFigures : Type 0 where
   pub junction-rounded : nodeHead (Junction (tenths 1)) (sums (tenths 3) (tenths 4)) is bits 0x3fdf_ffff_ffff_ffff

@@ -1,3 +1,4 @@
 pub mod Wave
 pub mod Nodes
+pub mod Adding
 pub mod Figures

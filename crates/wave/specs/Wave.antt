@@ -49,10 +49,3 @@ sumFrom x (y ∷ ys) = sumFrom (x ⊞ y) ys
 -- B and T of a node, from the K and the S of its ends in rising pipe number: each sum is worked out by itself
 unfoldable pub sumsOf : List Float → List Float → Sums
 sumsOf Ks Ss = record { b = sumFrom zero64 Ks; t = sumFrom zero64 Ss }
-
--- the sums before any end, and with one more end
-unfoldable pub noSums : Sums
-noSums = record { b = zero64; t = zero64 }
-
-unfoldable pub added : Sums → Float → Float → Sums
-added s K S = record { b = s .b ⊞ K; t = s .t ⊞ S }

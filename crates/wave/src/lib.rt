@@ -3,6 +3,7 @@ ghost use mathlib.Core.Path.{_≡_};
 ghost use Rattle.fields.specs.Real.{infinity64};
 ghost use Rattle.wave.specs.Wave as wave;
 ghost use Rattle.wave.specs.Nodes as nodes;
+ghost use Rattle.wave.specs.Adding as adding;
 
 // A node's sums over its pipe ends: b of K and t of S (B and T of document 01).
 pub struct Sums {
@@ -38,7 +39,7 @@ pub enum Discharge {
 // ---- the wave equations
 
 // |x|
-pub fn magnitude(x: f64) -> f64
+fn magnitude(x: f64) -> f64
     ensures { λ r. ⌜ r ≡ wave.magnitude x ⌝ }
 {
     if x < 0.0 { -x } else { x }
@@ -105,17 +106,26 @@ pub fn start_end(s: f64, k: f64, h: f64) -> HeadFlow
 impl Sums {
     // The sums before any end.
     pub fn none() -> Self
-        ensures { λ r. ⌜ r ≡ wave.noSums ⌝ }
+        ensures { λ r. ⌜ r ≡ adding.noSums ⌝ }
     {
         Self { b: 0.0, t: 0.0 }
     }
 
-    // The sums with one more end.
-    pub fn added(self, k: f64, s: f64) -> Self
-        ensures { λ r. ⌜ r ≡ wave.added self k s ⌝ }
+    // The sums with K, and with S, of one more end.
+    pub fn with_k(self, k: f64) -> Self
+        ensures { λ r. ⌜ r ≡ adding.withK self k ⌝ }
     {
         Self {
             b: self.b + k,
+            t: self.t,
+        }
+    }
+
+    pub fn with_s(self, s: f64) -> Self
+        ensures { λ r. ⌜ r ≡ adding.withS self s ⌝ }
+    {
+        Self {
+            b: self.b,
             t: self.t + s,
         }
     }
@@ -124,7 +134,7 @@ impl Sums {
 // ---- the nodes
 
 // q of an opening, by w and y.
-pub fn orifice_flow(w: f64, y: f64) -> Discharge
+fn orifice_flow(w: f64, y: f64) -> Discharge
     ensures { λ r. ⌜ r ≡ nodes.orificeFlow w y ⌝ }
 {
     if w == 0.0 {
@@ -145,7 +155,7 @@ pub fn orifice_flow(w: f64, y: f64) -> Discharge
 }
 
 // q of a valve.
-pub fn valve_flow(opening: f64, a: f64, b: f64, sums: Sums) -> Discharge
+fn valve_flow(opening: f64, a: f64, b: f64, sums: Sums) -> Discharge
     ensures { λ r. ⌜ r ≡ nodes.valveFlow opening a b sums ⌝ }
 {
     let w = ((opening * a) * (opening * a)) / sums.t;
@@ -154,7 +164,7 @@ pub fn valve_flow(opening: f64, a: f64, b: f64, sums: Sums) -> Discharge
 }
 
 // q of a pump, by y; t is T.
-pub fn lift_flow(b: f64, t: f64, y: f64) -> Discharge
+fn lift_flow(b: f64, t: f64, y: f64) -> Discharge
     ensures { λ r. ⌜ r ≡ nodes.liftFlow b t y ⌝ }
 {
     if y > 0.0 {
@@ -170,7 +180,7 @@ pub fn lift_flow(b: f64, t: f64, y: f64) -> Discharge
 }
 
 // q of a pump.
-pub fn pump_flow(speed: f64, a: f64, b: f64, c: f64, sums: Sums) -> Discharge
+fn pump_flow(speed: f64, a: f64, b: f64, c: f64, sums: Sums) -> Discharge
     ensures { λ r. ⌜ r ≡ nodes.pumpFlow speed a b c sums ⌝ }
 {
     let h = c + (speed * speed) * a;
@@ -187,7 +197,7 @@ fn infinity() -> f64
 
 impl Sums {
     // The head of a node out of which q flows, and of one into which it flows.
-    pub fn head_less(self, q: Discharge) -> f64
+    fn head_less(self, q: Discharge) -> f64
         ensures { λ r. ⌜ r ≡ nodes.headLess q self ⌝ }
     {
         let b = self.b;
@@ -198,7 +208,7 @@ impl Sums {
         }
     }
 
-    pub fn head_more(self, q: Discharge) -> f64
+    fn head_more(self, q: Discharge) -> f64
         ensures { λ r. ⌜ r ≡ nodes.headMore q self ⌝ }
     {
         let b = self.b;
@@ -210,7 +220,7 @@ impl Sums {
     }
 
     // The head h, and plus infinity where a sum is not finite.
-    pub fn judged(self, h: f64) -> f64
+    fn judged(self, h: f64) -> f64
         ensures { λ r. ⌜ r ≡ nodes.judged self h ⌝ }
     {
         if fields::is_finite(self.b) {

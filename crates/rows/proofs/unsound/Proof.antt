@@ -1,6 +1,6 @@
 -- `rows::unsound` meets its contract: its test is whether the section is sound. Assumes nothing.
 use mathlib.Core.Path.{_≡_, sym, ap, _∙_}
-use mathlib.Core.Bool.{Bool, cond, not, _&&_}
+use mathlib.Core.Bool.{Bool, true, false, cond, not, _&&_}
 use lib.Ieee.{Float, lt}
 use lib.Ieee.Scale.{finite}
 use borrow.Author.Needs.{needs}
@@ -18,12 +18,12 @@ counted-by floor head flow b e =
 returns : tie.Need-returns
 returns c =
     let a = c .before .before .args in
-    (search needs, counted-by (a .floor) (a .head) (a .flow) (c .before .both-finite .ensures) (c .if1 .taken))
+    (search needs, counted-by (a .floor) (a .head) (a .flow) {sound = true} (c .before .both-finite .ensures) (c .if1 .taken))
 
 returns-2 : tie.Need-returns-2
 returns-2 c =
     let a = c .before .before .args in
-    (search needs, counted-by (a .floor) (a .head) (a .flow) (c .before .both-finite .ensures) (c .if1 .left))
+    (search needs, counted-by (a .floor) (a .head) (a .flow) {sound = false} (c .before .both-finite .ensures) (c .if1 .left))
 
 pub unsound-spec : {M : Type 1} → statement M
 unsound-spec = tie.close (tie.spec (λ c κs. search needs) returns returns-2)

@@ -9,11 +9,11 @@ use Rattle.steps.proofs.run.Statement.{statement}
 use Rattle.steps.proofs.run.Tie as tie
 
 abbrev Inv-loop : tie.InvT-loop
-Inv-loop job done count t heads₀ flows₀ highest₀ lowest₀ spare₀ i₀ heads flows highest lowest spare i =
+Inv-loop job done count sums heads₀ flows₀ highest₀ lowest₀ spare₀ i₀ heads flows highest lowest spare i =
     Underway job done count i (gathered heads₀ flows₀ highest₀ lowest₀ spare₀) (gathered heads flows highest lowest spare)
 
 abbrev μ-loop : tie.MeasureT-loop
-μ-loop job done count t heads₀ flows₀ highest₀ lowest₀ spare₀ i₀ heads flows highest lowest spare i = count - i
+μ-loop job done count sums heads₀ flows₀ highest₀ lowest₀ spare₀ i₀ heads flows highest lowest spare i = count - i
 
 loop-holds : tie.Need-loop-holds Inv-loop μ-loop
 loop-holds c = way-none _ _ _ _
@@ -34,13 +34,18 @@ one-step-requires c κs =
     let s = begin (in-loop .before) in
     (way-ready _ _ _ _ (in-loop .before .loop .inv) (s .pre .0), omega (arith, s .pre .1, in-loop .loop-test .taken), s .pre .2)
 
+-- in full, so that a turn that counts more steps than it does is refused by the state that it leaves
 loop-again : tie.Need-loop-again Inv-loop μ-loop
 loop-again c =
     let v = stepped (c .before) in
     let underway =
     way-next _ _ _ _ (turn v .before .loop .inv) (v .one-step .ensures) (turn v .loop-test .taken) (v .one-step .kept .1 .1 .1)
     (sym (c .before .stops .ensures) ∙ c .if1 .left) in
-    underway
+    record {
+      within = omega (arith, turn v .loop-test .taken);
+      sizes = underway .sizes;
+      runs = record { result-is = underway .runs .result-is; rest = underway .runs .rest };
+    }
 
 returns : tie.Need-returns Inv-loop μ-loop
 returns c =
@@ -58,6 +63,7 @@ run-spec =
     μ-loop
     loop-holds
     (λ c. search needs)
+    (λ c. search needs)
     one-step-requires
     (λ c κs. search needs)
     (λ c. search needs)
@@ -66,7 +72,6 @@ run-spec =
     (λ c. search needs)
     (λ c. search needs)
     returns
-    (λ c. search needs)
     (λ c. search needs)
     loop-again
     (λ c. search needs)

@@ -16,7 +16,7 @@ ran c =
 
 -- where the call starts, and where the run has ended
 abbrev begin : tie.After-run → tie.Start
-begin c = c .before .before .before .before .before .before .before .before .before .before .before .before .before .before
+begin c = c .before .before .before .before .before .before .before .before .before .before .before .before .before
 
 abbrev ended : tie.After-clear-spare-arg → tie.After-run
 ended c = c .before .before .before .before .before .before .before .before .before .before .before

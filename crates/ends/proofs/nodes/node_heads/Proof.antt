@@ -17,11 +17,11 @@ use Rattle.ends.proofs.nodes.node_heads.Statement.{statement}
 use Rattle.ends.proofs.nodes.node_heads.Tie as tie
 
 abbrev Inv-loop : tie.InvT-loop
-Inv-loop job n b t nodes schedules count heads₀ place₀ y₀ heads place y =
-    (place ≡ placeOf nodes y) × (place ≤ y * 256) × (Upto (headBy job n b t) (replicate 32 zero64) 0 count y heads)
+Inv-loop job n sums nodes schedules count heads₀ place₀ y₀ heads place y =
+    (place ≡ placeOf nodes y) × (place ≤ y * 256) × (Upto (headBy job n sums) (replicate 32 zero64) 0 count y heads)
 
 abbrev μ-loop : tie.MeasureT-loop
-μ-loop job n b t nodes schedules count heads₀ place₀ y₀ heads place y = count - y
+μ-loop job n sums nodes schedules count heads₀ place₀ y₀ heads place y = count - y
 
 loop-holds : tie.Need-loop-holds Inv-loop μ-loop
 unfolding placeOf
@@ -42,7 +42,7 @@ node-at-requires c κs =
 
 next-place-requires : tie.Need-next-place-requires Inv-loop μ-loop
 next-place-requires c κs =
-    let turn : tie.In-loop Inv-loop μ-loop = c .before .before .before .before in
+    let turn : tie.In-loop Inv-loop μ-loop = c .before .before .before in
     let inv = turn .before .loop .inv in
     let pairs = tables-right _ (start (turn .before) .pre .0) .pairs in
     (inv .0, inv .1, turn .loop-test .taken, rw (turn .before .before .before .table .ensures) (table-short _ pairs 1 (omega arith)))
@@ -56,7 +56,7 @@ read c = c .node-at .ensures ∙ rw (c .before .before .before .before .table .e
 
 loop-again : tie.Need-loop-again Inv-loop μ-loop
 loop-again c =
-    let at : tie.After-node-at Inv-loop μ-loop = c .before .before .before .before in
+    let at : tie.After-node-at Inv-loop μ-loop = c .before .before .before in
     let turn : tie.In-loop Inv-loop μ-loop = at .before in (
       c .next-place .ensures .0,
       c .next-place .ensures .1,
@@ -78,11 +78,9 @@ node-heads-spec =
     node-at-requires
     (λ c. omega (arith, low (c .before)))
     (λ c. low (c .before))
-    (λ c. omega (arith, low (c .before .before)))
-    (λ c. low (c .before .before))
     (λ c κs. search needs)
-    (λ c. omega (arith, low (c .before .before .before .before)))
-    (λ c. low (c .before .before .before .before))
+    (λ c. omega (arith, low (c .before .before .before)))
+    (λ c. low (c .before .before .before))
     next-place-requires
     (λ c. search needs)
     (λ c. search needs)

@@ -1,4 +1,4 @@
--- `ends::spare::write_ends` meets its contract: the rows of sums have B and T of each node, so the heads of the nodes, and the ends by them
+-- `ends::spare::write_ends` meets its contract: the row of sums has B and T of each node, so the heads of the nodes, and the ends by them
 -- and by K, are the recurrence's. Assumes nothing.
 use mathlib.Core.Path.{_∙_}
 use borrow.Author.Needs.{needs}
@@ -15,9 +15,9 @@ returns : tie.Need-returns
 returns c =
     let ended : tie.After-ends-from-k = c .before .before in
     let headed : tie.After-node-heads = ended .before .before .before in
-    let kept : tie.After-keep-k = headed .before .before .before .before in
+    let kept : tie.After-keep-k = headed .before .before .before in
     let pre = start kept .pre in
-    let nodes = heads-by-sums _ (pre .0 .accepted) _ _ _ (kept .keep-k .ensures .0) (pre .2) (headed .node-heads .ensures) in (
+    let nodes = heads-by-sums _ (pre .0 .accepted) _ _ _ (kept .keep-k .ensures .0) (headed .node-heads .ensures) in (
       ends-in _ (pre .0 .accepted) _ _ _ nodes (kept .keep-k .ensures .1) (ended .ends-from-k .ensures .0),
       ended .ends-from-k .ensures .1 ∙ kept .keep-k .ensures .2,
     )

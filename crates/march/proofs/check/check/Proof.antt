@@ -9,7 +9,7 @@ use Rattle.march.proofs.check.check.Tie as tie
 
 returns : tie.Need-returns
 unfolding foundFault firstFault
-returns c = λ n e. sym (none-of-sound _ _ (sym (c .before .faults .ensures n e) ∙ eq-eqb _ _ (c .if1 .taken)))
+returns c = λ n e. sym (none-of-sound _ _ (sym (c .before .faults .ensures n e) ∙ eq-eqb (c .before .faults .result) 0 (c .if1 .taken)))
 
 pub check-spec : {M : Type 1} → statement M
 check-spec = tie.close (tie.spec (λ c κs. search needs) returns (λ c κs. search needs) (λ c. search needs))

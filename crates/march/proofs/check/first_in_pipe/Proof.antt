@@ -48,6 +48,8 @@ found c =
     let turn : tie.In-loop Inv-loop μ-loop = made .before in
     let s = start (turn .before) in
     fault-by-spare (now (s .args .job)) (laidOf (s .args .l)) (now (s .args .spare)) (s .args .p * 4) (now (s .args .heads)) (now (s .args .flows)) (turn .before .loop .i)
+    {floor = c .before .floor-of .result}
+    {x = made .new-at .result}
     (c .fault-of .ensures)
     (c .before .floor-of .ensures)
     (made .new-at .ensures)

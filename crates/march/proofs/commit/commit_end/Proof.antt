@@ -1,8 +1,10 @@
 -- `march::commit::commit_end` meets its contract: one section is stored in each of the four rows. Assumes nothing.
 use mathlib.Core.Path.{refl}
+use Prim.Native.Nat.{ℕ}
 use denote.Ref.{now}
 use borrow.Author.Needs.{needs}
 use Rattle.rows.proofs.Stepping.{stepped-one}
+use Rattle.ends.specs.Spare.{endIn}
 use Rattle.march.proofs.commit.commit_end.Statement.{statement}
 use Rattle.march.proofs.commit.commit_end.Tie as tie
 
@@ -12,7 +14,7 @@ returns c =
     let start : tie.Start = read .before .before .before .before .before .before in
     let args = start .args in
     let raised : tie.After-greater = c .before .before in
-    stepped-one _ (now (args .heads)) (now (args .flows)) (now (args .highest)) (now (args .lowest)) refl refl (start .pre .2) (start .pre .3) (raised .greater .ensures) (c .lesser .ensures)
+    stepped-one (λ (k : ℕ). endIn (now (args .spare)) (args .at)) (now (args .heads)) (now (args .flows)) (now (args .highest)) (now (args .lowest)) refl refl (start .pre .2) (start .pre .3) (raised .greater .ensures) (c .lesser .ensures)
 
 pub commit-end-spec : {M : Type 1} → statement M
 commit-end-spec =

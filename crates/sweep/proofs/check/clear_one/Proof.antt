@@ -1,6 +1,6 @@
 -- `sweep::check::clear_one` meets its contract: its test is of the floor that the code reads. Assumes nothing.
 use mathlib.Core.Path.{_≡_, sym, ap, _∙_}
-use mathlib.Core.Bool.{Bool, cond, _&&_}
+use mathlib.Core.Bool.{Bool, true, false, cond, _&&_}
 use mathlib.Core.List.{List}
 use Prim.Native.Nat.{ℕ, suc, _+_}
 use native.Mathlib.Omega.{arith}
@@ -31,12 +31,12 @@ clear-by floors i w limit d p e =
 returns : tie.Need-returns
 returns c =
     let a = c .before .before .before .args in
-    (omega arith, clear-by (now (a .floors)) (a .i) (a .w) (a .limit) (a .d) (c .before .floor-at .ensures) (c .if1 .taken))
+    (omega arith, clear-by (now (a .floors)) (a .i) (a .w) (a .limit) (a .d) {clear = true} (c .before .floor-at .ensures) (c .if1 .taken))
 
 returns-2 : tie.Need-returns-2
 returns-2 c =
     let a = c .before .before .before .args in
-    (omega arith, clear-by (now (a .floors)) (a .i) (a .w) (a .limit) (a .d) (c .before .floor-at .ensures) (c .if1 .left))
+    (omega arith, clear-by (now (a .floors)) (a .i) (a .w) (a .limit) (a .d) {clear = false} (c .before .floor-at .ensures) (c .if1 .left))
 
 pub clear-one-spec : {M : Type 1} → statement M
 clear-one-spec = tie.close (tie.spec (λ c. omega arith) floor-at-requires returns returns-2)

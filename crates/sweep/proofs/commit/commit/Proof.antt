@@ -122,7 +122,9 @@ module _ (c : tie.After-write-one2) where
       let done = to-pairs one in
       let a = start done .args in
       let cp = second-cp (now (a .friction)) (a .s) (now (a .heads)) (now (a .flows)) (done .commit-pairs .result .done) (done .commit-pairs .ensures .2) in
-      one-more (now (a .friction)) (a .s) (after-one one) cp (c .write-one2 .ensures)
+      let left = c .write-one2 .last .1 .1 .1 .1 in
+      one-more (now (a .friction)) (a .s) (after-one one) {newHeads = left .0} {newFlows = left .1 .0} {newHighest = left .1 .1 .0} {newLowest = left .1 .1 .1 .0} cp
+      (c .write-one2 .ensures)
 
 abbrev to-two : tie.After-slice-known16 → tie.After-write-one2
 to-two c =

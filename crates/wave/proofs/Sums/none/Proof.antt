@@ -1,6 +1,6 @@
 -- `wave::Sums::none` meets its contract: the definition is what the code computes. Assumes nothing.
 use mathlib.Core.Path.{refl}
-use Rattle.wave.specs.Wave.{noSums}
+use Rattle.wave.specs.Adding.{noSums}
 use Rattle.wave.proofs.Sums.none.Statement.{statement}
 use Rattle.wave.proofs.Sums.none.Tie as tie
 
