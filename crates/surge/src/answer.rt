@@ -19,31 +19,27 @@ pub struct Numbers {
     pub section: usize,
 }
 
+impl Numbers {
+    fn new(number: usize, steps: u64, section: usize) -> Numbers
+        ensures { λ r. ⌜ (r .number ≡ number) × (r .steps ≡ steps) × (r .section ≡ section) ⌝ }
+    {
+        Numbers {
+            number,
+            steps,
+            section,
+        }
+    }
+}
+
 // The numbers of an answer, as document 01 has them.
 pub fn numbers_of(answer: Answer) -> Numbers
     ensures { λ r. ⌜ (r .number ≡ paperAnswer answer .number) × (r .steps ≡ paperAnswer answer .steps)
         × (r .section ≡ paperAnswer answer .section) ⌝ }
 {
     match answer {
-        Answer::Refused(q) => Numbers {
-            number: q,
-            steps: 0,
-            section: 0,
-        },
-        Answer::Done(m) => Numbers {
-            number: 0,
-            steps: m,
-            section: 0,
-        },
-        Answer::NotFinite(m, s) => Numbers {
-            number: 40,
-            steps: m,
-            section: s,
-        },
-        Answer::Parted(m, s) => Numbers {
-            number: 41,
-            steps: m,
-            section: s,
-        },
+        Answer::Refused(q) => Numbers::new(q, 0, 0),
+        Answer::Done(m) => Numbers::new(0, m, 0),
+        Answer::NotFinite(m, s) => Numbers::new(40, m, s),
+        Answer::Parted(m, s) => Numbers::new(41, m, s),
     }
 }
