@@ -2,11 +2,11 @@
 use mathlib.Core.Path.{refl}
 use lib.Ieee.{ofBits, toBits}
 use Rattle.listing.specs.Text.{digits, placesWithin}
-use Rattle.listing.specs.Listing.{lineWritten}
+use Rattle.listing.specs.Listing.{closingText, lineWritten}
 use Rattle.listing.specs.Figures.{JobQ, DecimalFigures, PatternFigures, LineFigures, ClosingFigures}
 
 pub job-q : JobQ
-unfolding digits placesWithin toBits
+unfolding digits placesWithin toBits closingText
 job-q = record { section-0 = refl; section-1 = refl; section-2 = refl; last = refl }
 
 pub decimal-figures : DecimalFigures
@@ -47,7 +47,7 @@ line-figures = record {
 }
 
 pub closing-figures : ClosingFigures
-unfolding digits placesWithin
+unfolding digits placesWithin closingText
 closing-figures = record {
   none-done = refl;
   not-finite = refl;

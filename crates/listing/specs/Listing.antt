@@ -19,7 +19,7 @@ lineText section head flow highest lowest =
 
 -- "Last comes `done m`, `notfinite m s` or `parted m s` (steps done, section); a refused job prints only `refused n`."
 -- By the answer's number: 0, 40, 41, or the number of the question that got a no.
-abbrev pub closingText : ℕ → ℕ → ℕ → List ℕ
+unfoldable pub closingText : ℕ → ℕ → ℕ → List ℕ
 closingText number steps section =
     cond (eqb number 0) (printed (ascii "done") (decimal steps ∷ []))
     (cond (eqb number 40) (printed (ascii "notfinite") (decimal steps ∷ decimal section ∷ []))

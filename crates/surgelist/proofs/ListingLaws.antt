@@ -50,14 +50,15 @@ row-point r long s l =
 -- ---- what is written
 
 -- one text at the front of a slice is another, where the two are equal
-pub front-is : {t u held left : List ℕ} {n : ℕ} → t ≡ u → AtFront t held n left → AtFront u held n left
-front-is e w = rw e at w
+pub front-is : {t u held left : List ℕ} {n : ℕ} → AtFront t held n left → t ≡ u → AtFront u held n left
+front-is w e = rw e at w
 
 -- the lines by the rows and the closing line by an answer's numbers
-pub text-is : (r : Rows) (a : Answer) (count n number steps section : ℕ) → count ≡ n → (number ≡ a .number) × (steps ≡ a .steps) × (section ≡ a .section)
-    → linesText (rowLine (r heads) (r flows) (r highest) (r lowest)) count ++ closingText number steps section ≡ textOf n r a
+pub front-text : {count number steps section k : ℕ} {held left : List ℕ} (r : Rows) (a : Answer) (n : ℕ)
+    → AtFront (linesText (rowLine (r heads) (r flows) (r highest) (r lowest)) count ++ closingText number steps section) held k left
+    → count ≡ n → number ≡ a .number → steps ≡ a .steps → section ≡ a .section → AtFront (textOf n r a) held k left
 unfolding closingLine
-text-is r a count n number steps section c e = rw (c, e .0, e .1, e .2)
+front-text r a n w c d e f = rw (c, d, e, f) at w
 
 -- ---- a refused job
 

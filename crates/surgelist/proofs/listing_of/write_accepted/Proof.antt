@@ -1,11 +1,10 @@
 -- `surgelist::listing_of::write_accepted` meets its contract: the lines and the closing line of what the run left and answered. Assumes nothing.
-use mathlib.Core.Path.{_∙_}
 use native.Mathlib.Omega.{arith}
 use borrow.Author.Needs.{needs}
 use Rattle.recurrence.specs.Calls.{Rows, gathered}
 use Rattle.surge.specs.Answers.{paperAnswer}
 use Rattle.job.proofs.Accepted.{section-limit}
-use Rattle.surgelist.proofs.ListingLaws.{front-is, text-is}
+use Rattle.surgelist.proofs.ListingLaws.{front-is, front-text}
 use Rattle.surgelist.proofs.listing_of.write_accepted.Statement.{statement}
 use Rattle.surgelist.proofs.listing_of.write_accepted.Tie as tie
 
@@ -36,7 +35,8 @@ returns c =
     let n = numbered (w .before) in
     let r = ran n in
     let s = begin r in
-    front-is (text-is (rows r) (paperAnswer (r .run .result)) _ _ _ _ _ (s .pre .0 .1) (n .numbers-of .ensures) ∙ r .run .ensures) (w .write-listing .ensures)
+    let e = n .numbers-of .ensures in
+    front-is (front-text (rows r) (paperAnswer (r .run .result)) _ (w .write-listing .ensures) (s .pre .0 .1) (e .0) (e .1) (e .2)) (r .run .ensures)
 
 pub write-accepted-spec : {M : Type 1} → statement M
 write-accepted-spec =

@@ -30,7 +30,7 @@ returns c =
     let d = a .before .before in
     let job = begin d .args .job .now in
     let r = refused-is job _ (ap paperAnswer (sym (a .read2 .given .1)) ∙ d .read .ensures) in
-    front-is (refused-listing job _ _ (r .0) (r .1)) (w .write-listing .ensures)
+    front-is (w .write-listing .ensures) (refused-listing job _ _ (r .0) (r .1))
 
 pub write-listing-of-spec : {M : Type 1} → statement M
 write-listing-of-spec =
