@@ -7,57 +7,61 @@
 #ifndef VINTUQAY_H
 #define VINTUQAY_H
 
+#include <stddef.h>
+#include <stdint.h>
+
 /* The version of these calls: the first number changes where a program would have to, the second where
  * something is added. */
 #define VINTUQAY_VERSION_MAJOR 1
 #define VINTUQAY_VERSION_MINOR 0
 
-#include <stddef.h>
-#include <stdint.h>
-
 #ifdef __cplusplus
 extern "C" {
 #endif
 
-/* The limits. */
+/* Limits and lengths. */
 enum {
-    VINTUQAY_JOB_BYTES = 32768, /* the longest job */
-    VINTUQAY_SECTIONS = 512,    /* the most sections of a job */
-    VINTUQAY_PIPES = 32,        /* the most pipes of a job */
-    VINTUQAY_STEPS = 1000000,   /* the most steps of a run */
-    VINTUQAY_SPARE_PER_PIPE = 4, /* values of the spare that a pipe takes */
-    VINTUQAY_LINE_BYTES = 72    /* what a listing's line asks of its slice, the longest line's length */
+    VINTUQAY_JOB_BYTES = 32768,  /* the longest job */
+    VINTUQAY_PIPES = 32,         /* the most pipes of a job */
+    VINTUQAY_SECTIONS = 512,     /* the most sections of a job */
+    VINTUQAY_STEPS = 1000000,    /* the most steps of a run */
+    VINTUQAY_SPARE_PER_PIPE = 4, /* the values of the spare that a pipe takes */
+    VINTUQAY_LINE_BYTES = 72     /* the bytes that a listing's line asks for, and those of the longest line */
 };
 
 /* The number of an answer: done, the question that got a no, or a stop. A stop is not a refusal. */
 enum vintuqay_answer {
     VINTUQAY_DONE = 0,
+
     /* questions to every call that takes a job */
-    VINTUQAY_JOB_LENGTH = 1,        /* has the job 46 to 32,768 bytes? */
-    VINTUQAY_PAIR_COUNT = 2,        /* are there five pairs? */
-    VINTUQAY_TABLES = 3,            /* does each table begin where the last ended, and the fifth end the job? */
-    VINTUQAY_LISTING_STEPS = 4,     /* are the steps for the listing at most 1,000,000? */
-    VINTUQAY_PIPE_TABLE = 5,        /* is table 1 whole, 1 to 32 pipes? */
-    VINTUQAY_NODE_TABLE = 6,        /* is table 2 whole, 2 to 32 nodes? */
-    VINTUQAY_PIPE = 7,              /* has each pipe two different nodes, both present, and 1 to 511 reaches? */
-    VINTUQAY_SECTION_COUNT = 8,     /* are there at most 512 sections? */
-    VINTUQAY_PIPE_CONSTANT = 9,     /* is each S finite and above zero? */
-    VINTUQAY_NODE_KIND = 10,        /* is each kind 0 to 3 and each schedule count at least 1? */
-    VINTUQAY_NODE_FIGURES = 11,     /* are a, b, c finite, in range, and zero bits where not named? */
-    VINTUQAY_NODE_WITHOUT_PIPE = 12, /* has each node a pipe end? */
-    VINTUQAY_FRICTION_TABLE = 13,   /* has table 3 the right length, each R finite and not below zero? */
-    VINTUQAY_INITIAL_TABLE = 14,    /* has table 4 the right length, all finite, no head below its floor? */
-    VINTUQAY_SCHEDULE_TABLE = 15,   /* has table 5 the right length, all finite and in range? */
+    VINTUQAY_JOB_LENGTH = 1,      /* has the job 46 to 32,768 bytes? */
+    VINTUQAY_PAIR_COUNT = 2,      /* are there five pairs? */
+    VINTUQAY_TABLES = 3,          /* does each table begin where the last ended, and the fifth end the job? */
+    VINTUQAY_LISTING_STEPS = 4,   /* are the steps for the listing at most 1,000,000? */
+    VINTUQAY_PIPE_TABLE = 5,      /* is table 1 whole, 1 to 32 pipes? */
+    VINTUQAY_NODE_TABLE = 6,      /* is table 2 whole, 2 to 32 nodes? */
+    VINTUQAY_PIPE = 7,            /* has each pipe two different nodes, both present, and 1 to 511 reaches? */
+    VINTUQAY_SECTION_COUNT = 8,   /* are there at most 512 sections? */
+    VINTUQAY_PIPE_CONSTANT = 9,   /* is each S finite and above zero? */
+    VINTUQAY_NODE_KIND = 10,      /* is each kind 0 to 3 and each schedule count at least 1? */
+    VINTUQAY_NODE_FIGURES = 11,   /* are a, b, c finite and in range, zero bits where the kind names none? */
+    VINTUQAY_NODE_END = 12,       /* has each node a pipe end? */
+    VINTUQAY_FRICTION_TABLE = 13, /* has table 3 the right length, each R finite and not below zero? */
+    VINTUQAY_INITIAL_TABLE = 14,  /* has table 4 the right length, all finite, no head below its floor? */
+    VINTUQAY_SCHEDULE_TABLE = 15, /* has table 5 the right length, all finite and in its kind's range? */
+
     /* questions to the start and the run-on */
-    VINTUQAY_SLICE_LENGTH = 20,     /* does each lent slice hold the section count, the spare four per pipe? */
-    VINTUQAY_STEP_LIMIT = 21,       /* is m at most 1,000,000 and N at most 1,000,000 - m? */
-    VINTUQAY_STATE = 22,            /* are heads, flows and envelopes finite, no head below its floor? */
-    /* questions that vintuqay_root shows by a NaN and vintuqay_line by 0 */
-    VINTUQAY_ROOT_ARGUMENT = 23,    /* is the argument finite and not below zero? */
-    VINTUQAY_LINE_SLICE = 24,       /* is the section below 512 and the slice at least 72 bytes long? */
+    VINTUQAY_SLICE_LENGTH = 20, /* does each slice hold the section count, the spare four per pipe? */
+    VINTUQAY_STEP_LIMIT = 21,   /* is m at most 1,000,000 and N at most 1,000,000 - m? */
+    VINTUQAY_STATE = 22,        /* are heads, flows and envelopes finite, no head below its floor? */
+
+    /* questions whose no vintuqay_root shows by a NaN, and vintuqay_line by 0 */
+    VINTUQAY_ROOT_ARGUMENT = 23, /* is the argument finite and not below zero? */
+    VINTUQAY_LINE_ROOM = 24,     /* is the section below 512 and the slice at least 72 bytes long? */
+
     /* stops */
-    VINTUQAY_NOT_FINITE = 40,       /* a head or flow is not finite */
-    VINTUQAY_PARTED = 41            /* a head is below its floor */
+    VINTUQAY_NOT_FINITE = 40, /* a head or flow is not finite */
+    VINTUQAY_PARTED = 41      /* a head is below its floor */
 };
 
 /* An answer is one number. Its parts:
