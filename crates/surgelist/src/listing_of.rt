@@ -25,7 +25,8 @@ fn run(
 ) -> Answer
     requires { ⌜ (Accepted (now job)) × (steps ≡ listingSteps (now job)) ⌝ }
     requires { ⌜ Long (lent heads flows highest lowest spare) ⌝ }
-    ensures { λ r. ⌜ textOf (sections (jobOf (now (job .entry)))) (after heads flows highest lowest spare) (paperAnswer r)
+    ensures { λ r. ⌜ textOf (sections (jobOf (now (job .entry))))
+        (after heads flows highest lowest spare) (paperAnswer r)
         ≡ listingOf (now (job .entry)) ⌝ }
 {
     surge::start(job, heads, flows, highest, lowest, spare);
