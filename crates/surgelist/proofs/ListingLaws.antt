@@ -1,12 +1,12 @@
 -- What the program's calls write is a job's listing: a refused job's closing line alone; else the run-on goes from the start's rows, and the rows that it
 -- leaves hold, section by section, the state that the run left. Assumes nothing.
-use mathlib.Core.Path.{_≡_, refl, sym, ap, ap₂, _∙_}
+use mathlib.Core.Path.{_≡_, refl, ap, ap₂, _∙_}
 use mathlib.Core.List.{List, [], _∷_, _++_}
-use Prim.Native.Nat.{ℕ, zero, suc, _≤_, _<_}
+use Prim.Native.Nat.{ℕ, zero, suc, _<_}
 use native.Mathlib.Nat.{not-suc-le-zero, le-of-suc-le-suc}
 use native.Mathlib.Omega.{arith}
 use lib.ListN.{length, getD}
-use lib.Ieee.{Float, nan}
+use lib.Ieee.{nan}
 use borrow.Author.Tests.{ne-eqb}
 use Rattle.fields.specs.Real.{zero64}
 use Rattle.job.specs.Job.{Job, sections}
@@ -15,7 +15,7 @@ use Rattle.job.specs.Questions.{refusal, Accepted}
 use Rattle.job.proofs.Accepted.{section-limit}
 use Rattle.recurrence.specs.State.{pointAt, startState}
 use Rattle.recurrence.specs.Run.{refused, ran, Answer, answerOf, ask, started, start, runOn}
-use Rattle.recurrence.specs.Calls.{heads, flows, highest, lowest, Rows, enoughLent, pointIn, stateIn, rowsOf, rowsAfter, Called, readFirst, called, startResult, startCall, runOnResult, runOnCall}
+use Rattle.recurrence.specs.Calls.{heads, flows, highest, lowest, Rows, pointIn, stateIn, rowsOf, rowsAfter, Called, readFirst, called, startResult, startCall, runOnResult, runOnCall}
 use Rattle.recurrence.proofs.Runs.{Sized, Ran, steps-ran}
 use Rattle.recurrence.proofs.RowLaws.{holds-point, holds-state, rows-hold}
 use Rattle.recurrence.proofs.Tied.{start-sized}
