@@ -25,12 +25,8 @@ fn pack(number: usize, section: usize, steps: u64) -> u64
 fn pack_answer(answer: Answer) -> u64
     ensures { λ r. ⌜ r ≡ packedAnswer (paperAnswer answer) ⌝ }
 {
-    match answer {
-        Answer::Refused(q) => pack(q, 0, 0),
-        Answer::Done(m) => pack(0, 0, m),
-        Answer::NotFinite(m, s) => pack(40, s, m),
-        Answer::Parted(m, s) => pack(41, s, m),
-    }
+    let n = surge::numbers_of(answer);
+    pack(n.number, n.section, n.steps)
 }
 
 // The root; a NaN where question 23 has a no.

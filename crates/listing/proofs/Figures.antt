@@ -2,12 +2,12 @@
 use mathlib.Core.Path.{refl}
 use lib.Ieee.{ofBits, toBits}
 use Rattle.listing.specs.Text.{digits, placesWithin}
-use Rattle.listing.specs.Listing.{linesText, lineWritten, closingWritten}
+use Rattle.listing.specs.Listing.{closingText, lineWritten}
 use Rattle.listing.specs.Figures.{JobQ, DecimalFigures, PatternFigures, LineFigures, ClosingFigures}
 
 pub job-q : JobQ
-unfolding digits placesWithin toBits linesText
-job-q = record { section-0 = refl; section-1 = refl; section-2 = refl; last = refl; whole = refl }
+unfolding digits placesWithin toBits closingText
+job-q = record { section-0 = refl; section-1 = refl; section-2 = refl; last = refl }
 
 pub decimal-figures : DecimalFigures
 unfolding digits placesWithin
@@ -47,14 +47,11 @@ line-figures = record {
 }
 
 pub closing-figures : ClosingFigures
-unfolding digits placesWithin linesText closingWritten
+unfolding digits placesWithin closingText
 closing-figures = record {
   none-done = refl;
   not-finite = refl;
   parted = refl;
   first-question = refl;
   refused = refl;
-  no-lines = refl;
-  no-room = refl;
-  room = refl;
 }

@@ -1,12 +1,12 @@
 -- Figures of the texts, as statements about the definitions; they are proved in proofs/Figures.antt. Definitions only.
 use mathlib.Core.Path.{_≡_}
 use mathlib.Core.Bool.{true, false}
-use mathlib.Core.List.{[], _∷_, _++_}
+use mathlib.Core.List.{[]}
 use lib.ListN.{length}
 use lib.IntN.{pos, negsuc}
 use lib.Ieee.{Float, nan, inf, fin, binary64, ofBits}
 use Rattle.listing.specs.Text.{ascii, decimal, pattern}
-use Rattle.listing.specs.Listing.{lineAllowed, lineText, closingText, rowLine, listingText, lineWritten, closingWritten}
+use Rattle.listing.specs.Listing.{lineAllowed, lineText, closingText, lineWritten}
 
 -- the numbers 10, 4, 14 and +0 of job Q, each an odd number times a power of two
 abbrev pub ten : Float
@@ -27,9 +27,6 @@ pub record JobQ : Type 0 where
   pub section-1 : lineText 1 ten four ten ten ≡ ascii "1 4024000000000000 4010000000000000 4024000000000000 4024000000000000\n"
   pub section-2 : lineText 2 fourteen plusZero fourteen ten ≡ ascii "2 402c000000000000 0000000000000000 402c000000000000 4024000000000000\n"
   pub last : closingText 0 1 0 ≡ ascii "done 1\n"
-  pub whole : listingText (rowLine (ten ∷ ten ∷ fourteen ∷ []) (four ∷ four ∷ plusZero ∷ []) (ten ∷ ten ∷ fourteen ∷ []) (ten ∷ ten ∷ ten ∷ [])) 3 0 1 0
-      ≡ ascii "0 4024000000000000 4010000000000000 4024000000000000 4024000000000000\n" ++ (ascii "1 4024000000000000 4010000000000000 4024000000000000 4024000000000000\n"
-      ++ ascii "2 402c000000000000 0000000000000000 402c000000000000 4024000000000000\ndone 1\n")
 
 -- Our own, from here on: numbers in decimal at the edges of their length
 pub record DecimalFigures : Type 0 where
@@ -69,6 +66,3 @@ pub record ClosingFigures : Type 0 where
   pub parted : closingText 41 999999 511 ≡ ascii "parted 999999 511\n"
   pub first-question : closingText 1 0 0 ≡ ascii "refused 1\n"
   pub refused : closingText 15 3 4 ≡ ascii "refused 15\n"
-  pub no-lines : listingText (rowLine [] [] [] []) 0 7 0 0 ≡ ascii "refused 7\n"
-  pub no-room : closingWritten 0 1 0 71 ≡ []
-  pub room : closingWritten 0 1 0 72 ≡ ascii "done 1\n"

@@ -4,8 +4,8 @@ use Prim.Native.Nat.{ℕ, zero, suc}
 use mathlib.Core.Bool.{Bool, _&&_, cond}
 use mathlib.Core.List.{List, [], _∷_, _++_}
 use lib.Dec.{leb, ltb, eqb}
-use lib.ListN.{length, getD, drop}
-use lib.Ieee.{Float, nan}
+use lib.ListN.{length, drop}
+use lib.Ieee.{Float}
 use Rattle.listing.specs.Text.{ascii, decimal, pattern, printed}
 
 -- "Listing line: is the section below 512 and the slice at least 72 bytes long? 24"
@@ -19,7 +19,7 @@ lineText section head flow highest lowest =
 
 -- "Last comes `done m`, `notfinite m s` or `parted m s` (steps done, section); a refused job prints only `refused n`."
 -- By the answer's number: 0, 40, 41, or the number of the question that got a no.
-abbrev pub closingText : ℕ → ℕ → ℕ → List ℕ
+unfoldable pub closingText : ℕ → ℕ → ℕ → List ℕ
 closingText number steps section =
     cond (eqb number 0) (printed (ascii "done") (decimal steps ∷ []))
     (cond (eqb number 40) (printed (ascii "notfinite") (decimal steps ∷ decimal section ∷ []))
@@ -31,20 +31,9 @@ unfoldable pub linesText : (ℕ → List ℕ) → ℕ → List ℕ
 linesText line zero = []
 linesText line (suc count) = linesText line count ++ line count
 
--- a section's line by the four rows of a run
-abbrev pub rowLine : List Float → List Float → List Float → List Float → ℕ → List ℕ
-rowLine heads flows highest lowest s = lineText s (getD heads s nan) (getD flows s nan) (getD highest s nan) (getD lowest s nan)
-
--- "It prints, without a header, a line per section ... Last comes" the closing line. A refused job has no line before it.
-abbrev pub listingText : (ℕ → List ℕ) → ℕ → ℕ → ℕ → ℕ → List ℕ
-listingText line count number steps section = linesText line count ++ closingText number steps section
-
--- What a call writes that was lent `room` bytes: the line, or nothing for question 24's no; the closing line, or nothing where room for a line is lacking.
+-- What the line call writes in a slice of `room` bytes: the line, or nothing for question 24's no.
 unfoldable pub lineWritten : ℕ → Float → Float → Float → Float → ℕ → List ℕ
 lineWritten section head flow highest lowest room = cond (lineAllowed section room) (lineText section head flow highest lowest) []
-
-unfoldable pub closingWritten : ℕ → ℕ → ℕ → ℕ → List ℕ
-closingWritten number steps section room = cond (leb 72 room) (closingText number steps section) []
 
 -- What a call that writes a text at the front of a lent slice answers and leaves: the count of the text's bytes, and the text followed by
 -- what the slice held there: "bytes after that part keep what they held".

@@ -7,13 +7,12 @@ use text::put_number;
 use text::put_pattern;
 use text::put_text;
 ghost use mathlib.Core.Path.{_≡_};
-ghost use mathlib.Core.List.{_∷_, []};
+ghost use mathlib.Core.List.{_∷_, [], _++_};
 ghost use Prim.Native.Nat.{_+_, _*_, _≤_, _<_};
 ghost use lib.ListN.{length};
 ghost use Rattle.listing.specs.Text.{decimal, pattern, following, printed};
-ghost use Rattle.listing.specs.Listing.{lineText, closingText, linesText, rowLine, listingText};
-ghost use Rattle.listing.specs.Listing.{lineWritten, closingWritten, AtFront};
-ghost use Rattle.listing.specs.Written.{Written, Listable};
+ghost use Rattle.listing.specs.Listing.{lineText, closingText, linesText, lineWritten, AtFront};
+ghost use Rattle.listing.specs.Written.{Written, Listable, rowLine};
 
 // The bytes that question 24 asks for: a line has at most 3 digits, four fields of 17 and the newline.
 const LINE: usize = 72;
@@ -75,7 +74,9 @@ pub fn write_line(
 }
 
 // The line call: the part of `out` that holds the section's line, newline included; an empty part
-// for question 24's no. It begins where `out` begins.
+// for question 24's no. It begins where `out` begins. No clause can speak of a `&mut` slice after a
+// part of it is handed back, so that the bytes after the part keep what they held is said by the
+// contract of `write_line`, which this calls, and tested of `line` itself by the program `line_bytes`.
 pub fn line<'a>(
     section: usize,
     head: f64,
@@ -134,18 +135,6 @@ fn put_closing(number: usize, steps: usize, section: usize, at: usize, out: &mut
     put_word_number(b"refused", number, at, out)
 }
 
-// Writes the closing line of an answer at the front of `out` and answers how many bytes it takes; 0,
-// with `out` as it was, where `out` is shorter than question 24 asks for a line.
-pub fn write_closing(number: usize, steps: usize, section: usize, out: &mut [u8]) -> usize
-    ensures { λ r. ⌜ AtFront (closingWritten number steps section (length (now (out .entry))))
-        (now (out .entry)) r (now (out .exit)) ⌝ }
-{
-    if out.len() < LINE {
-        return 0;
-    }
-    put_closing(number, steps, section, 0, out)
-}
-
 // The lines of the sections 0 to count - 1, by the four rows.
 fn put_lines(
     count: usize,
@@ -170,8 +159,8 @@ fn put_lines(
     at
 }
 
-// Writes a whole listing at the front of `out` and answers how many bytes it takes. An inner call:
-// the program lends rows and room enough.
+// Writes the lines of the sections 0 to count - 1 and a closing line at the front of `out`, and
+// answers how many bytes they take. An inner call: the program lends rows and room enough.
 pub fn write_listing(
     count: usize,
     number: usize,
@@ -186,7 +175,8 @@ pub fn write_listing(
     requires { ⌜ Listable count (now heads) (now flows) (now highest) (now lowest) (now out) ⌝ }
     ensures { λ r. ⌜ (let line = rowLine (now (heads .entry)) (now (flows .entry))
         (now (highest .entry)) (now (lowest .entry)) in
-        AtFront (listingText line count number steps section) (now (out .entry)) r (now (out .exit))) ⌝ }
+        AtFront (linesText line count ++ closingText number steps section)
+        (now (out .entry)) r (now (out .exit))) ⌝ }
 {
     let at = put_lines(count, heads, flows, highest, lowest, out);
     put_closing(number, steps, section, at, out)

@@ -16,6 +16,8 @@ pub mod answer;
 pub mod state;
 
 pub use answer::Answer;
+pub use answer::Numbers;
+pub use answer::numbers_of;
 use job::Read;
 use rows::Scan;
 use steps::Ended;

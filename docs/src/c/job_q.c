@@ -4,7 +4,7 @@
 #include <stdio.h>
 #include <string.h>
 
-enum { SECTIONS = 3, PIPES = 1, SPARE = 4 * PIPES };
+enum { SECTIONS = 3, PIPES = 1, SPARE = VINTUQAY_SPARE_PER_PIPE * PIPES };
 enum { JOB = 46 + PIPES * 12 + 2 * 26 + 2 * 8 + SECTIONS * 24 + 2 * 8 };
 
 static uint8_t job[JOB];
@@ -59,15 +59,29 @@ static void put_job_q(void) {
     put_double(0);
 }
 
+/* What the number of an answer says, of those that job Q meets. */
+static const char *said(uint64_t answer) {
+    switch (vintuqay_number(answer)) {
+    case VINTUQAY_DONE:
+        return "done";
+    case VINTUQAY_SLICE_LENGTH:
+        return "a slice is too short";
+    case VINTUQAY_STEP_LIMIT:
+        return "too many steps";
+    default:
+        return "something else";
+    }
+}
+
 int main(void) {
     double h[SECTIONS], q[SECTIONS], high[SECTIONS], low[SECTIONS], spare[SPARE];
     put_job_q();
     uint64_t answer = vintuqay_read(job, used);
-    printf("read: number %u, %u sections, %u steps\n", vintuqay_number(answer),
+    printf("read: %s, %u sections, %u steps\n", said(answer),
            vintuqay_section(answer), (unsigned)vintuqay_steps(answer));
     answer = vintuqay_start(job, used, h, SECTIONS, q, SECTIONS, high, SECTIONS, low, SECTIONS,
                             spare, SPARE);
-    while (vintuqay_number(answer) == 0) {
+    while (vintuqay_number(answer) == VINTUQAY_DONE) {
         printf("step %u: heads", (unsigned)vintuqay_steps(answer));
         for (int section = 0; section < SECTIONS; section++)
             printf(" %g", h[section]);
@@ -81,17 +95,20 @@ int main(void) {
                                  high, SECTIONS, low, SECTIONS, spare, SPARE);
     }
     for (size_t section = 0; section < SECTIONS; section++) {
-        uint8_t line[72];
+        uint8_t line[VINTUQAY_LINE_BYTES];
         size_t length = vintuqay_line(section, h[section], q[section], high[section], low[section],
                                       line, sizeof line);
         fwrite(line, 1, length, stdout);
     }
     answer = vintuqay_run_on(job, used, 5, 1, h, SECTIONS, q, SECTIONS - 1, high, SECTIONS, low,
                              SECTIONS, spare, SPARE);
-    printf("flows too short: number %u\n", vintuqay_number(answer));
+    printf("flows too short: %u, %s\n", vintuqay_number(answer), said(answer));
     answer = vintuqay_run_on(job, used, 5, 1, h, SECTIONS, q, SECTIONS, high, SECTIONS, low, SECTIONS,
                              spare, SPARE - 1);
-    printf("a spare of %d: number %u\n", SPARE - 1, vintuqay_number(answer));
+    printf("a spare of %d: %u, %s\n", SPARE - 1, vintuqay_number(answer), said(answer));
+    answer = vintuqay_run_on(job, used, 5, VINTUQAY_STEPS, h, SECTIONS, q, SECTIONS, high, SECTIONS, low,
+                             SECTIONS, spare, SPARE);
+    printf("%d steps more: %u, %s\n", VINTUQAY_STEPS, vintuqay_number(answer), said(answer));
     printf("roots: %g %a\n", vintuqay_root(144), vintuqay_root(2));
     return 0;
 }

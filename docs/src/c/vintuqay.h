@@ -10,13 +10,62 @@
 #include <stddef.h>
 #include <stdint.h>
 
+/* The version of these calls: the first number changes where a program would have to, the second where
+ * something is added. */
+#define VINTUQAY_VERSION_MAJOR 1
+#define VINTUQAY_VERSION_MINOR 0
+
 #ifdef __cplusplus
 extern "C" {
 #endif
 
+/* Limits and lengths. */
+enum {
+    VINTUQAY_JOB_BYTES = 32768,  /* the longest job */
+    VINTUQAY_PIPES = 32,         /* the most pipes of a job */
+    VINTUQAY_SECTIONS = 512,     /* the most sections of a job */
+    VINTUQAY_STEPS = 1000000,    /* the most steps of a run */
+    VINTUQAY_SPARE_PER_PIPE = 4, /* the values of the spare that a pipe takes */
+    VINTUQAY_LINE_BYTES = 72     /* the bytes that a listing's line asks for, and those of the longest line */
+};
+
+/* The number of an answer: done, the question that got a no, or a stop. A stop is not a refusal. */
+enum vintuqay_answer {
+    VINTUQAY_DONE = 0,
+
+    /* questions to every call that takes a job */
+    VINTUQAY_JOB_LENGTH = 1,      /* has the job 46 to 32,768 bytes? */
+    VINTUQAY_PAIR_COUNT = 2,      /* are there five pairs? */
+    VINTUQAY_TABLES = 3,          /* does each table begin where the last ended, and the fifth end the job? */
+    VINTUQAY_LISTING_STEPS = 4,   /* are the steps for the listing at most 1,000,000? */
+    VINTUQAY_PIPE_TABLE = 5,      /* is table 1 whole, 1 to 32 pipes? */
+    VINTUQAY_NODE_TABLE = 6,      /* is table 2 whole, 2 to 32 nodes? */
+    VINTUQAY_PIPE = 7,            /* has each pipe two different nodes, both present, and 1 to 511 reaches? */
+    VINTUQAY_SECTION_COUNT = 8,   /* are there at most 512 sections? */
+    VINTUQAY_PIPE_CONSTANT = 9,   /* is each S finite and above zero? */
+    VINTUQAY_NODE_KIND = 10,      /* is each kind 0 to 3 and each schedule count at least 1? */
+    VINTUQAY_NODE_FIGURES = 11,   /* are a, b, c finite and in range, zero bits where the kind names none? */
+    VINTUQAY_NODE_END = 12,       /* has each node a pipe end? */
+    VINTUQAY_FRICTION_TABLE = 13, /* has table 3 the right length, each R finite and not below zero? */
+    VINTUQAY_INITIAL_TABLE = 14,  /* has table 4 the right length, all finite, no head below its floor? */
+    VINTUQAY_SCHEDULE_TABLE = 15, /* has table 5 the right length, all finite and in its kind's range? */
+
+    /* questions to the start and the run-on */
+    VINTUQAY_SLICE_LENGTH = 20, /* does each slice hold the section count, the spare four per pipe? */
+    VINTUQAY_STEP_LIMIT = 21,   /* is m at most 1,000,000 and N at most 1,000,000 - m? */
+    VINTUQAY_STATE = 22,        /* are heads, flows and envelopes finite, no head below its floor? */
+
+    /* questions whose no vintuqay_root shows by a NaN, and vintuqay_line by 0 */
+    VINTUQAY_ROOT_ARGUMENT = 23, /* is the argument finite and not below zero? */
+    VINTUQAY_LINE_ROOM = 24,     /* is the section below 512 and the slice at least 72 bytes long? */
+
+    /* stops */
+    VINTUQAY_NOT_FINITE = 40, /* a head or flow is not finite */
+    VINTUQAY_PARTED = 41      /* a head is below its floor */
+};
+
 /* An answer is one number. Its parts:
- *   number   0, or the number of the question that got a no (1 to 15, 20 to 22), or of the stop: 40 a
- *            head or flow not finite, 41 a head below its floor. A stop is not a refusal.
+ *   number   one of enum vintuqay_answer: 0, or that of the question that got a no, or of the stop.
  *   section  of a stop; of vintuqay_read, the section count.
  *   steps    the steps done in all; of vintuqay_read, the steps for the listing.
  * A no gives the number alone, and then nothing has been written.
@@ -66,8 +115,9 @@ uint64_t vintuqay_run_on(
 
 /* The line of a section, at the front of `out`: number in decimal, head, flow, maximum, minimum, each
  * as 16 lower-case hexadecimal digits, highest first, one space between two fields, and a newline.
- * Returns how many bytes it takes, at most 72; bytes after them keep what they held. Returns 0, with
- * nothing written, where the section is not below 512 or `out` has fewer than 72 bytes (question 24).
+ * Returns how many bytes it takes, at most VINTUQAY_LINE_BYTES; bytes after them keep what they held.
+ * Returns 0, with nothing written, where the section is not below VINTUQAY_SECTIONS or `out` has fewer
+ * than VINTUQAY_LINE_BYTES bytes (question 24).
  * Every NaN is printed as 7ff8000000000000.
  */
 size_t vintuqay_line(size_t section, double head, double flow, double highest, double lowest,

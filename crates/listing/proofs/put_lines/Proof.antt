@@ -6,8 +6,8 @@ use native.Mathlib.Numerals.{add-one}
 use native.Mathlib.Omega.{arith}
 use lib.ListN.{length}
 use denote.Ref.{now}
-use Rattle.listing.specs.Listing.{linesText, rowLine}
-use Rattle.listing.specs.Written.{Written}
+use Rattle.listing.specs.Listing.{linesText}
+use Rattle.listing.specs.Written.{Written, rowLine}
 use Rattle.listing.proofs.Stores.{joined, kept}
 use Rattle.listing.proofs.put_lines.Statement.{statement}
 use Rattle.listing.proofs.put_lines.Tie as tie

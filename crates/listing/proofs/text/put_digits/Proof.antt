@@ -2,7 +2,7 @@
 use mathlib.Core.Path.{_≡_, refl, sym, ap, _∙_}
 use mathlib.Core.List.{List}
 use Prim.Native.Nat.{ℕ, _+_, _≤_}
-use native.Mathlib.Nat.{le-refl, mod-lt}
+use native.Mathlib.Nat.{le-refl, lt-of-lt-of-le, mod-lt}
 use native.Mathlib.Omega.{arith}
 use borrow.Author.Needs.{needs}
 use lib.ListN.{length, length-set}
@@ -24,7 +24,7 @@ loop-holds c = (le-refl _, refl, refl)
 digit-code-requires : tie.Need-digit-code-requires Inv-loop μ-loop
 digit-code-requires c κs =
     let p = c .before .before .before .pre .0 in
-    omega (arith, mod-lt (c .before .loop .left) (p .0), p .1)
+    lt-of-lt-of-le (mod-lt _ (p .0)) (p .1)
 
 loop-again : tie.Need-loop-again Inv-loop μ-loop
 loop-again c =

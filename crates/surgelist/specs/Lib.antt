@@ -1,0 +1,3 @@
+pub mod ListingOf
+pub mod Lent
+pub mod Figures
