@@ -13,7 +13,7 @@ ghost use Rattle.surge.specs.Answers.{paperAnswer, left};
 ghost use Rattle.steps.specs.Steps.{Ready, resultOf};
 
 pub mod answer;
-pub mod state;
+mod state;
 
 pub use answer::Answer;
 pub use answer::Numbers;

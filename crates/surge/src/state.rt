@@ -74,7 +74,8 @@ pub fn clear_spare(job: &[u8], spare: &mut [f64])
     ensures { λ _. ⌜ now (spare .exit)
         ≡ fill (λ (s : ℕ). zero64) (now (spare .entry)) 0 (pipeCount (pipeTable (now (job .entry))) * 4) ⌝ }
 {
-    rows::clear_row(ends::laid::pipe_count(job) * 4, spare);
+    let used = ends::laid::pipe_count(job) * 4;
+    rows::clear_row(used, spare);
 }
 
 // Question 22; e stands for the spare, which it does not ask about.

@@ -11,8 +11,8 @@ use Rattle.loops.proofs.All.{all-of}
 use Rattle.job.specs.Job.{Initial, sections, initialAt, floorAt}
 use Rattle.job.specs.Format.{initialTable, initialIn, sectionIn, listingSteps, jobOf}
 use Rattle.job.specs.Questions.{stepsFit, finiteSection, sectionFits, Accepted}
-use Rattle.job.proofs.Tables.{both}
-use Rattle.job.proofs.Listed.{getD-listed}
+use Rattle.loops.proofs.Tests.{both}
+use Rattle.loops.proofs.Listed.{getD-listed}
 use Rattle.job.proofs.SectionLaws.{section-fits, finite-section}
 use Rattle.job.proofs.Accepted.{tables-right, pipe-limits, section-limit, initial-length, initial-fits}
 use Rattle.recurrence.specs.State.{noPoint, pointAt, startPoint, startState}

@@ -5,7 +5,7 @@ use mathlib.Core.List.{List, [], _∷_, _++_}
 use Prim.Native.Nat.{ℕ}
 use lib.Dec.{eqb}
 use lib.ListN.{set}
-use Rattle.job.proofs.Figures.{jobQ}
+use Rattle.job.specs.JobQ.{jobQ}
 use Rattle.listing.specs.Text.{ascii}
 use Rattle.surgelist.specs.ListingOf.{listingOf}
 
