@@ -1,4 +1,5 @@
 -- `wave::from_above` meets its contract, by that of `magnitude`. Assumes nothing.
+use mathlib.Core.Path.{refl}
 use borrow.Author.Needs.{needs}
 use Rattle.wave.specs.Wave.{fromAbove}
 use Rattle.wave.proofs.from_above.Statement.{statement}
@@ -6,7 +7,7 @@ use Rattle.wave.proofs.from_above.Tie as tie
 
 returns : tie.Need-returns
 unfolding fromAbove
-returns c = rw (c .magnitude .ensures)
+returns c = rw (c .magnitude .ensures) refl
 
 pub from-above-spec : {M : Type 1} → statement M
 from-above-spec = tie.close (tie.spec (λ c κs. search needs) returns)

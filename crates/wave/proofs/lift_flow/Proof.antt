@@ -1,5 +1,5 @@
 -- `wave::lift_flow` meets its contract, at each return by the tests that lead there. Assumes nothing.
-use mathlib.Core.Path.{sym, _∙_}
+use mathlib.Core.Path.{refl, sym, _∙_}
 use borrow.Author.Needs.{needs}
 use Rattle.wave.specs.Nodes.{rooted, pumpArgument, liftFlow}
 use Rattle.wave.proofs.lift_flow.Statement.{statement}
@@ -9,7 +9,7 @@ returns : tie.Need-returns
 unfolding liftFlow pumpArgument rooted
 returns c =
     let f = c .before .before in
-    rw (c .root-of .ensures, f .before .if1 .taken, sym (f .is-finite .ensures) ∙ c .before .if2 .taken)
+    rw (c .root-of .ensures, f .before .if1 .taken, sym (f .is-finite .ensures) ∙ c .before .if2 .taken) refl
 
 returns-2 : tie.Need-returns-2
 unfolding liftFlow pumpArgument rooted
