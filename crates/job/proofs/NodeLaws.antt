@@ -10,7 +10,7 @@ use lib.Ieee.{Float}
 use lib.Ieee.Scale.{finite}
 use borrow.Author.Tests.{leb-true, eqb-true}
 use Rattle.fields.specs.Real.{zero64}
-use Rattle.fields.specs.Bytes.{finiteAt}
+use Rattle.fields.specs.Finite.{finiteAt}
 use Rattle.loops.proofs.All.{all-at}
 use Rattle.job.specs.Job.{ScheduledNode, entryAt}
 use Rattle.job.specs.Format.{nodeCount, kindNumber, scheduleCount, aOf, bOf, cOf, placeOf, entryIn, nodeIn, nodesIn}

@@ -3,7 +3,7 @@ ghost use mathlib.Core.Path.{_≡_};
 ghost use Rattle.job.specs.Questions.{refusal};
 ghost use Rattle.job.specs.Answer.{paperAnswer, readAnswer};
 
-pub mod answer;
+mod answer;
 pub mod nodes;
 pub mod pairs;
 pub mod pipes;

@@ -103,6 +103,9 @@ start-fit job ok s l =
     rw (getD-listed (sections j) (λ t. startPoint (initialAt j t)) s noPoint l)
     (record { head = i .head; flow = i .flow; highest = i .head; lowest = i .head; above = head-above-floor job ok s })
 
+pub start-acceptable : (job : List ℕ) → Accepted job → acceptable (jobOf job) (startState (jobOf job)) ≡ true
+start-acceptable job ok = fit-acceptable (jobOf job) (startState (jobOf job)) (start-fit job ok)
+
 -- no fault among several means none in each
 no-earlier : (a b : Fault) → earlier a b ≡ none → (a ≡ none) × (b ≡ none)
 unfolding earlier

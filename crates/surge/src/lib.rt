@@ -12,7 +12,7 @@ ghost use Rattle.recurrence.specs.Slices.{lent, before, after};
 ghost use Rattle.surge.specs.Answers.{paperAnswer, left};
 ghost use Rattle.steps.specs.Steps.{Ready, resultOf};
 
-pub mod answer;
+mod answer;
 mod state;
 
 pub use answer::Answer;

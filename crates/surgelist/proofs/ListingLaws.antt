@@ -1,11 +1,10 @@
 -- What the program's calls write is a job's listing: a refused job's closing line alone; else the run-on goes from the start's rows, and the rows that it
 -- leaves hold, section by section, the state that the run left. Assumes nothing.
 use mathlib.Core.Path.{_≡_, refl, ap, ap₂, _∙_}
-use mathlib.Core.List.{List, [], _∷_, _++_}
+use mathlib.Core.List.{List, _++_}
 use Prim.Native.Nat.{ℕ, zero, suc, _<_}
-use native.Mathlib.Nat.{not-suc-le-zero, le-of-suc-le-suc}
 use native.Mathlib.Omega.{arith}
-use lib.ListN.{length, getD}
+use lib.ListN.{getD}
 use lib.Ieee.{nan}
 use borrow.Author.Tests.{ne-eqb}
 use Rattle.fields.specs.Real.{zero64}
@@ -19,20 +18,17 @@ use Rattle.recurrence.specs.Calls.{heads, flows, highest, lowest, Rows, pointIn
 use Rattle.recurrence.proofs.Runs.{Sized, Ran, steps-ran}
 use Rattle.recurrence.proofs.RowLaws.{holds-point, holds-state, rows-hold}
 use Rattle.recurrence.proofs.Tied.{start-sized}
+use Rattle.recurrence.proofs.GoesOn.{start-acceptable}
+use Rattle.loops.proofs.Within.{getD-within}
 use Rattle.listing.specs.Listing.{linesText, closingText, AtFront}
 use Rattle.listing.specs.Written.{rowLine}
 use Rattle.surgelist.specs.ListingOf.{runOf, pointLine, sectionLines, closingLine, listingOf}
 use Rattle.surgelist.specs.Lent.{Long, textOf}
-use Rattle.surgelist.proofs.StartLaws.{long-enough, listing-within, start-acceptable}
+use Rattle.surgelist.proofs.StartLaws.{long-enough, listing-within}
 
 -- ---- lists and lines
 
 -- within a list nothing turns on what is read past its end
-getD-any : {A : Type 0} (l : List A) (s : ℕ) (a b : A) → s < length l → getD l s a ≡ getD l s b
-getD-any [] s a b h = absurd (not-suc-le-zero h)
-getD-any (x ∷ l) zero a b h = refl
-getD-any (x ∷ l) (suc s) a b h = getD-any l s a b (le-of-suc-le-suc h)
-
 lines-cong : (count : ℕ) (f g : ℕ → List ℕ) → ((s : ℕ) → s < count → f s ≡ g s) → linesText f count ≡ linesText g count
 unfolding linesText
 lines-cong zero f g h = refl
@@ -41,10 +37,10 @@ lines-cong (suc n) f g h = ap₂ _++_ (lines-cong n f g (λ s l. h s (omega arit
 row-point : (r : Rows) → Long r → (s : ℕ) → s < 512 → rowLine (r heads) (r flows) (r highest) (r lowest) s ≡ pointLine s (pointIn r s)
 unfolding pointLine pointIn
 row-point r long s l =
-    let a = getD-any (r heads) s nan zero64 (omega arith) in
-    let b = getD-any (r flows) s nan zero64 (omega arith) in
-    let c = getD-any (r highest) s nan zero64 (omega arith) in
-    let d = getD-any (r lowest) s nan zero64 (omega arith) in
+    let a = getD-within (r heads) s nan zero64 (omega arith) in
+    let b = getD-within (r flows) s nan zero64 (omega arith) in
+    let c = getD-within (r highest) s nan zero64 (omega arith) in
+    let d = getD-within (r lowest) s nan zero64 (omega arith) in
     rw (a, b, c, d)
 
 -- ---- what is written

@@ -1,6 +1,6 @@
 -- `fields::not_finite_at` meets its contract: the exponent's field with 1 added is 2048 only where the number is not finite. Assumes nothing.
 use borrow.Author.Needs.{needs}
-use Rattle.fields.specs.Bytes.{finiteAt}
+use Rattle.fields.specs.Finite.{finiteAt}
 use Rattle.fields.proofs.Patterns.{pattern-not-finite}
 use Rattle.fields.proofs.not_finite_at.Statement.{statement}
 use Rattle.fields.proofs.not_finite_at.Tie as tie

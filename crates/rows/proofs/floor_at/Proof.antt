@@ -1,6 +1,6 @@
 -- `rows::floor_at` meets its contract: the floor is the f64 number at byte 16 of the section's part. Assumes nothing.
 use borrow.Author.Needs.{needs}
-use Rattle.fields.specs.Bytes.{finiteAt}
+use Rattle.fields.specs.Finite.{finiteAt}
 use Rattle.rows.proofs.floor_at.Statement.{statement}
 use Rattle.rows.proofs.floor_at.Tie as tie
 

@@ -1,6 +1,6 @@
 -- `sweep::friction_at` meets its contract: R stands eight bytes a reach. Assumes nothing.
 use borrow.Author.Needs.{needs}
-use Rattle.fields.specs.Bytes.{finiteAt}
+use Rattle.fields.specs.Finite.{finiteAt}
 use Rattle.sweep.proofs.friction_at.Statement.{statement}
 use Rattle.sweep.proofs.friction_at.Tie as tie
 

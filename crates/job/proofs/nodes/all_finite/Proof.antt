@@ -1,6 +1,6 @@
 -- `job::nodes::all_finite` meets its contract. Assumes nothing.
 use Rattle.job.specs.Questions.{allFinite}
-use Rattle.fields.specs.Bytes.{finiteAt}
+use Rattle.fields.specs.Finite.{finiteAt}
 use borrow.Author.Needs.{needs}
 use Rattle.job.proofs.nodes.all_finite.Statement.{statement}
 use Rattle.job.proofs.nodes.all_finite.Tie as tie

@@ -1,5 +1,5 @@
 -- `job::pipes::constant` meets its contract. Assumes nothing.
-use Rattle.fields.specs.Bytes.{finiteAt}
+use Rattle.fields.specs.Finite.{finiteAt}
 use borrow.Author.Needs.{needs}
 use Rattle.job.proofs.pipes.constant.Statement.{statement}
 use Rattle.job.proofs.pipes.constant.Tie as tie

@@ -1,6 +1,6 @@
 -- `job::pipes::constant_fits` meets its contract. Assumes nothing.
 use mathlib.Core.Path.{sym, _∙_}
-use Rattle.fields.specs.Bytes.{finiteAt}
+use Rattle.fields.specs.Finite.{finiteAt}
 use Rattle.job.specs.Questions.{constantFits}
 use borrow.Author.Needs.{needs}
 use Rattle.job.proofs.pipes.constant_fits.Statement.{statement}

@@ -4,7 +4,7 @@ use mathlib.Core.Bool.{Bool, true, false, cond}
 use Prim.Native.Nat.{ℕ}
 use lib.Ieee.{Float, lt}
 use denote.Ref.{now}
-use Rattle.fields.specs.Bytes.{finiteAt}
+use Rattle.fields.specs.Finite.{finiteAt}
 use Rattle.loops.proofs.Counting.{one-where}
 use Rattle.job.specs.Job.{Initial}
 use Rattle.job.specs.Format.{sectionIn}

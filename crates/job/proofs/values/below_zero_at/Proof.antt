@@ -5,7 +5,7 @@ use Prim.Native.Nat.{ℕ}
 use lib.Ieee.{Float, lt}
 use denote.Ref.{now}
 use Rattle.fields.specs.Real.{zero64}
-use Rattle.fields.specs.Bytes.{finiteAt}
+use Rattle.fields.specs.Finite.{finiteAt}
 use Rattle.loops.proofs.Counting.{one-where}
 use Rattle.job.specs.Format.{rIn}
 use Rattle.job.specs.Questions.{notBelowZero}

@@ -1,6 +1,6 @@
 -- `job::values::head_at` meets its contract. Assumes nothing.
 use mathlib.Core.Path.{sym, ap, _∙_}
-use Rattle.fields.specs.Bytes.{finiteAt}
+use Rattle.fields.specs.Finite.{finiteAt}
 use Rattle.job.specs.Job.{Initial}
 use Rattle.job.proofs.SectionLaws.{section-finite, section-is}
 use borrow.Author.Needs.{needs}

@@ -2,7 +2,8 @@
 use Prim.Native.Nat.{_-_, _*_}
 use native.Mathlib.Omega.{arith}
 use lib.Ieee.Scale.{finite}
-use Rattle.fields.specs.Bytes.{finiteAt, f64At}
+use Rattle.fields.specs.Bytes.{f64At}
+use Rattle.fields.specs.Finite.{finiteAt}
 use Rattle.loops.proofs.Counting.{Counting, counting-none, counting-more, counting-done}
 use borrow.Author.Needs.{needs}
 use Rattle.job.proofs.values.not_finite.Statement.{statement}

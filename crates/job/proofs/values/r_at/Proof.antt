@@ -1,6 +1,6 @@
 -- `job::values::r_at` meets its contract. Assumes nothing.
 use mathlib.Core.Path.{sym, _∙_}
-use Rattle.fields.specs.Bytes.{finiteAt}
+use Rattle.fields.specs.Finite.{finiteAt}
 use Rattle.job.proofs.SectionLaws.{r-finite, r-is}
 use borrow.Author.Needs.{needs}
 use Rattle.job.proofs.values.r_at.Statement.{statement}
