@@ -12,7 +12,8 @@ use Rattle.fields.specs.Real.{zero64}
 use Rattle.loops.specs.Fill.{fill}
 use Rattle.loops.proofs.Fill.{fill-cong, fill-below, fill-front}
 use Rattle.wave.specs.declared.HeadFlow.{HeadFlow}
-use Rattle.rows.specs.Rows.{entry, raised, lowered, enveloped}
+use Rattle.rows.specs.Rows.{entry, enveloped}
+use Rattle.recurrence.specs.Step.{raised, lowered}
 use Rattle.rows.proofs.Stepping.{SteppedRows, SteppedTo}
 
 -- ---- stores that do not meet

@@ -18,7 +18,7 @@ use Rattle.job.specs.Questions.{Accepted}
 use Rattle.job.proofs.AcceptedValues.{section-finite, head-above-floor}
 use Rattle.wave.specs.declared.HeadFlow.{HeadFlow}
 use Rattle.recurrence.specs.State.{Point, State, noPoint, pointAt, startPoint, startState}
-use Rattle.recurrence.specs.Step.{inputs, located, newAt, updated, newPoint, advanced}
+use Rattle.recurrence.specs.Step.{inputs, located, newAt, raised, lowered, updated, newPoint, advanced}
 use Rattle.recurrence.specs.Scan.{Fault, none, fault, notFinite, parted, faultOf, earlier, scan, finished, outcomeOf, step, acceptableAt, acceptable}
 use Rattle.recurrence.specs.Run.{played}
 use Rattle.recurrence.specs.Calls.{Row, heads, flows, highest, lowest, spare, Rows, inUse, pointIn}
@@ -75,7 +75,7 @@ no-fault floor s p h = go (finite (p .head)) (finite (p .flow)) (lt (p .head) fl
 
 -- the envelopes are the new head or what they were
 updated-fit : (floor : Float) (s : ℕ) (new : HeadFlow) (old : Point) → Fit floor old → faultOf floor s (updated new old) ≡ none → Fit floor (updated new old)
-unfolding updated
+unfolding updated raised lowered
 updated-fit floor s new old f e =
     let w = no-fault floor s (updated new old) e in
     record {

@@ -101,12 +101,18 @@ newAt ls f st nowhere = record { head = zero64; flow = zero64 }
 newAt ls f st (place l i) = newIn ls f st l i
 
 -- "A finished step raises the maximum where the head is greater, lowers the minimum where it is less."
+unfoldable pub raised : Float → Float → Float
+raised highest head = cond (lt highest head) head highest
+
+unfoldable pub lowered : Float → Float → Float
+lowered lowest head = cond (lt head lowest) head lowest
+
 unfoldable pub updated : HeadFlow → Point → Point
 updated new old = record {
   head = new .head;
   flow = new .flow;
-  highest = cond (lt (old .highest) (new .head)) (new .head) (old .highest);
-  lowest = cond (lt (new .head) (old .lowest)) (new .head) (old .lowest);
+  highest = raised (old .highest) (new .head);
+  lowest = lowered (old .lowest) (new .head);
 }
 
 unfoldable pub newPoint : List Laid → Inputs → State → ℕ → Point

@@ -11,7 +11,8 @@ use Rattle.fields.specs.Real.{zero64}
 use Rattle.loops.specs.Fill.{fill}
 use Rattle.loops.proofs.Fill.{fill-none, fill-step, fill-above, fill-cong, fill-join, length-fill}
 use Rattle.wave.specs.declared.HeadFlow.{HeadFlow}
-use Rattle.rows.specs.Rows.{entry, raised, lowered, enveloped}
+use Rattle.rows.specs.Rows.{entry, enveloped}
+use Rattle.recurrence.specs.Step.{raised, lowered}
 use Rattle.rows.proofs.Entries.{read}
 
 -- ---- one row

@@ -1,28 +1,20 @@
--- Rows of f64 numbers, one number a section: what a step stores for a section. Definitions only.
+-- Rows of f64 numbers, one number a section: what a step stores for a section. Inner definitions: no public call cites them.
 use mathlib.Core.Path.{_≡_}
-use mathlib.Core.Bool.{cond}
 use mathlib.Core.List.{List}
 use Prim.Native.Nat.{ℕ, _+_}
 use lib.ListN.{getD}
-use lib.Ieee.{Float, lt}
+use lib.Ieee.{Float}
 use Rattle.fields.specs.Real.{zero64}
 use Rattle.loops.specs.Fill.{fill}
 use Rattle.wave.specs.declared.HeadFlow.{HeadFlow}
 use Rattle.recurrence.specs.Slices.{LentSlice}
+use Rattle.recurrence.specs.Step.{raised, lowered}
 
 -- the number of section s in a row; past its end a row reads as +0
 abbrev pub entry : List Float → ℕ → Float
 entry row s = getD row s zero64
 
--- "A finished step raises the maximum where the head is greater": the highest head so far, and the new head
-unfoldable pub raised : Float → Float → Float
-raised highest head = cond (lt highest head) head highest
-
--- "lowers the minimum where it is less": the lowest head so far, and the new head
-unfoldable pub lowered : Float → Float → Float
-lowered lowest head = cond (lt head lowest) head lowest
-
--- an envelope by either rule, where the sections from `at` on have the new heads that `head` has
+-- an envelope by either rule, `raised` or `lowered`, where the sections from `at` on have the new heads that `head` has
 abbrev pub enveloped : (Float → Float → Float) → (ℕ → Float) → List Float → ℕ → ℕ → Float
 enveloped rule head row at i = rule (entry row (at + i)) (head i)
 

@@ -18,14 +18,14 @@ use Rattle.job.specs.Questions.{Accepted}
 use Rattle.loops.proofs.Listed.{getD-listed, listed-cong}
 use Rattle.job.proofs.Accepted.{initial-length, pipes-length}
 use Rattle.recurrence.specs.State.{Point, State, pointAt, noPoint}
-use Rattle.recurrence.specs.Step.{inputs, located, newAt, updated, newPoint, advanced}
+use Rattle.recurrence.specs.Step.{inputs, located, newAt, updated, newPoint, advanced, raised, lowered}
 use Rattle.recurrence.specs.Scan.{scan}
 use Rattle.recurrence.specs.Calls as row
 use Rattle.recurrence.specs.Calls.{Rows, gathered, inUse, pointIn, stateIn}
 use Rattle.recurrence.proofs.EachRow.{each}
 use Rattle.recurrence.proofs.RowLaws.{Enough, state-at}
 use Rattle.recurrence.proofs.StepLaws.{advanced-at}
-use Rattle.rows.specs.Rows.{entry, raised, lowered, enveloped}
+use Rattle.rows.specs.Rows.{entry, enveloped}
 use Rattle.rows.specs.declared.found.Scan.{Scan}
 use Rattle.rows.specs.Faults.{floorIn, firstFault, foundFault}
 use Rattle.rows.proofs.InState.{scan-is}

@@ -16,6 +16,7 @@ SHOWS_NOTHING = (
     ("a tactic gave up", r"met a bound of its own|step limit|ran out of steps|gave up|did not finish|no verdict"),
     ("a name is not there", r"is not in scope|has no `[^`]*` that can be named|no module named|unknown name"),
     ("a need can't be named", r"Need-[^`]*` that can be named|takes \d+ arguments?, but|is given too many arguments"),
+    ("a rewriting found no place", r"no occurrence of the path's|no part of the goal"),
     ("something is undetermined", r"was not determined|unsolved"),
     ("the file does not parse", r"expected a term|parse error|unexpected"),
 )

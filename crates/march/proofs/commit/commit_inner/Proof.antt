@@ -4,7 +4,7 @@ use native.Mathlib.Omega.{arith}
 use lib.ListN.{length}
 use denote.Ref.{now}
 use borrow.Author.Needs.{needs}
-use Rattle.rows.specs.Rows.{raised, lowered}
+use Rattle.recurrence.specs.Step.{raised, lowered}
 use Rattle.ends.specs.Ends.{laidOf}
 use Rattle.ends.proofs.Accept.{Within, within, pairs-accepted, friction-length}
 use Rattle.march.proofs.Above.{keepNew}

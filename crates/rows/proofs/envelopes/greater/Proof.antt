@@ -2,7 +2,7 @@
 use mathlib.Core.Path.{_≡_, sym, ap}
 use mathlib.Core.Bool.{Bool, true, false, cond}
 use lib.Ieee.{Float, lt}
-use Rattle.rows.specs.Rows.{raised}
+use Rattle.recurrence.specs.Step.{raised}
 use Rattle.rows.proofs.envelopes.greater.Statement.{statement}
 use Rattle.rows.proofs.envelopes.greater.Tie as tie
 

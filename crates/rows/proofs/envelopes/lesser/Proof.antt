@@ -2,7 +2,7 @@
 use mathlib.Core.Path.{_≡_, sym, ap}
 use mathlib.Core.Bool.{Bool, true, false, cond}
 use lib.Ieee.{Float, lt}
-use Rattle.rows.specs.Rows.{lowered}
+use Rattle.recurrence.specs.Step.{lowered}
 use Rattle.rows.proofs.envelopes.lesser.Statement.{statement}
 use Rattle.rows.proofs.envelopes.lesser.Tie as tie
 

@@ -1,5 +1,9 @@
 -- `surge::state::clear_spare` meets its contract: the spare is cleared by the count of pipes. Assumes nothing.
+use mathlib.Core.Path.{_≡_}
+use Prim.Native.Nat.{ℕ, _*_}
 use native.Mathlib.Omega.{arith}
+use Rattle.fields.specs.Real.{zero64}
+use Rattle.loops.specs.Fill.{fill}
 use borrow.Author.Needs.{needs}
 use Rattle.surge.proofs.state.clear_spare.Statement.{statement}
 use Rattle.surge.proofs.state.clear_spare.Tie as tie
@@ -10,7 +14,11 @@ clear-row-requires c κs = omega (arith, c .before .pipe-count .ensures .0, c .b
 returns : tie.Need-returns
 returns c =
     let cleared = c .before .before in
-    rw (cleared .before .before .pipe-count .ensures .0) at (cleared .clear-row .ensures)
+    let counted = cleared .before .before in
+    let start : tie.Start = counted .before .before .before in
+    let filled : cleared .clear-row .last .1 .0 ≡ fill (λ (s : ℕ). zero64) (start .args .spare .now) 0 (counted .pipe-count .result * 4) =
+        cleared .clear-row .ensures in
+    rw (counted .pipe-count .ensures .0) at filled
 
 pub clear-spare-spec : {M : Type 1} → statement M
 clear-spare-spec =
