@@ -17,7 +17,7 @@ returns c =
     let counted = cleared .before .before in
     let start : tie.Start = counted .before .before .before in
     let filled : cleared .clear-row .last .1 .0 ≡ fill (λ (s : ℕ). zero64) (start .args .spare .now) 0 (counted .pipe-count .result * 4) =
-        cleared .clear-row .ensures in
+    cleared .clear-row .ensures in
     rw (counted .pipe-count .ensures .0) at filled
 
 pub clear-spare-spec : {M : Type 1} → statement M
