@@ -5,7 +5,7 @@ use mathlib.Core.List.{List, [], _∷_, _++_}
 use Prim.Native.Nat.{ℕ, suc}
 use native.Mathlib.Omega.{arith}
 use lib.Dec.{eqb}
-use borrow.Author.Tests.{eqb-true, eqb-false, eq-eqb, ne-eqb, not-true, not-false}
+use borrow.Author.Tests.{eqb-true, eqb-false, eq-eqb, ne-eqb}
 use Rattle.job.specs.Questions.{Question, firstNo, pairQuestions, pipeQuestions, nodeQuestions, valueQuestions, questions, refusal, Accepted}
 
 -- m, and n where m is 0
@@ -67,10 +67,3 @@ none-refused job h =
 pub yes : (t : Bool) (n m : ℕ) → cond t m (suc n) ≡ 0 → (t ≡ true) × (m ≡ 0)
 yes true n m h = (refl, h)
 yes false n m h = absurd (omega arith)
-
--- what a branch on the answer to a question tells of the question's test
-pub is-yes : {r t : Bool} → r ≡ t → not r ≡ false → t ≡ true
-is-yes e h = sym e ∙ not-false _ h
-
-pub is-no : {r t : Bool} → r ≡ t → not r ≡ true → t ≡ false
-is-no e h = sym e ∙ not-true _ h

@@ -1,12 +1,12 @@
 -- A loop that asks a test of 0, 1, .., and stops at the first that fails it: whether `p` holds of every number below n.
 -- In a loop:  all-none, all-more   what has passed so far;  all-stop   the answer where one fails
--- Of the answer:  all-at, all-of;  all-both   of two tests;  all-cong   of tests that agree
+-- Of the answer:  all-at, all-of;  all-both   of two tests;  all-cong   of tests that agree;  all-join   of two ranges, one after the other
 -- Assumes nothing.
 use mathlib.Core.Path.{_≡_, refl, sym, ap₂, _∙_}
 use mathlib.Core.Logic.{⊎-elim}
-use mathlib.Core.Bool.{Bool, true, false, _&&_}
+use mathlib.Core.Bool.{Bool, true, false, _&&_, and-true, and-assoc}
 use Prim.Native.Nat.{ℕ, zero, suc, _+_, _<_, _≤_}
-use native.Mathlib.Nat.{le-of-suc-le-suc, not-suc-le-zero, eq-or-lt-of-le}
+use native.Mathlib.Nat.{add-zero, add-suc, le-of-suc-le-suc, not-suc-le-zero, eq-or-lt-of-le}
 use native.Mathlib.Numerals.{add-one}
 use native.Mathlib.Omega.{arith}
 use Rattle.loops.specs.Loops.{allBelow}
@@ -26,6 +26,12 @@ pub all-cong : (n : ℕ) (p q : ℕ → Bool) → ((s : ℕ) → s < n → p s �
 unfolding allBelow
 all-cong zero p q h = refl
 all-cong (suc n) p q h = ap₂ _&&_ (all-cong n p q (λ s l. h s (omega arith))) (h n (omega arith))
+
+-- of the first a, and of the n after them
+pub all-join : (p : ℕ → Bool) (a n : ℕ) → allBelow p (a + n) ≡ allBelow p a && allBelow (λ i. p (a + i)) n
+unfolding allBelow
+all-join p a zero = rw (add-zero a) (sym (and-true (allBelow p a)))
+all-join p a (suc n) = rw (add-suc a n, all-join p a n) (and-assoc (allBelow p a) (allBelow (λ i. p (a + i)) n) (p (a + n)))
 
 module _ (p : ℕ → Bool) where
   pub all-none : allBelow p 0 ≡ true

@@ -1,8 +1,8 @@
 -- A loop that adds 1 for each of 0, 1, .. that fails a test, and 0 for the others: the count is 0 exactly where the test holds of all. Assumes nothing.
-use mathlib.Core.Path.{_≡_, refl, sym, _∙_}
-use mathlib.Core.Bool.{Bool, true, false, not, _&&_, cond}
-use Prim.Native.Nat.{ℕ, _+_, _<_, _≤_}
-use native.Mathlib.Nat.{add-zero}
+use mathlib.Core.Path.{_≡_, refl, sym, ap, _∙_}
+use mathlib.Core.Bool.{Bool, true, false, not, _&&_, cond, and-true}
+use Prim.Native.Nat.{ℕ, zero, suc, _+_, _<_, _≤_}
+use native.Mathlib.Nat.{add-zero, zero-add}
 use native.Mathlib.Numerals.{add-one}
 use native.Mathlib.Omega.{arith}
 use borrow.Author.Tests.{ne-eqb}
@@ -16,12 +16,8 @@ pub record Counting (p : ℕ → Bool) (n i count : ℕ) : Type 0 where
   pub few : count ≤ i
   pub told : eqb count 0 ≡ allBelow p i
 
-and-true : (a : Bool) → a ≡ a && true
-and-true true = refl
-and-true false = refl
-
 told-more : (a b : Bool) (count : ℕ) → eqb count 0 ≡ a → eqb (count + cond b 0 1) 0 ≡ a && b
-told-more a true count e = rw (add-zero count) (e ∙ and-true a)
+told-more a true count e = rw (add-zero count) (e ∙ sym (and-true a))
 told-more a false count e = ne-eqb (count + 1) 0 (λ z. omega arith) ∙ sym (and-false a)
 
 -- what is added where the failure itself is tested
@@ -45,3 +41,21 @@ module _ (p : ℕ → Bool) {n : ℕ} where
 
   pub counting-done : {i count : ℕ} → Counting p n i count → n ≤ i → eqb count 0 ≡ allBelow p n
   counting-done {i} u l = let e : n ≡ i = omega arith in rw e (u .told)
+
+-- a sum of counts is 0 where each is; one that is added tells its test
+pub zero-sum : (x y : ℕ) → eqb (x + y) 0 ≡ eqb x 0 && eqb y 0
+zero-sum zero y = rw (zero-add y)
+zero-sum (suc x) y = ne-eqb (suc x + y) 0 (λ e. omega arith) ∙ sym (ap (λ (t : Bool). t && eqb y 0) (ne-eqb (suc x) 0 (λ e. omega arith)))
+
+pub one-told : (b : Bool) → eqb (cond b 0 1) 0 ≡ b
+one-told true = refl
+one-told false = refl
+
+-- a turn that looks at two, each with a counter of its own
+pub two-counted :
+    (p : ℕ → Bool) (odd even : ℕ) {n i v w : ℕ} → Counting p n i (odd + even) → i + 2 ≤ n → v ≡ cond (p i) 0 1 → w ≡ cond (p (i + 1)) 0 1
+    → Counting p n (i + 2) (odd + v + (even + w))
+two-counted p odd even {n} {i} {v} {w} u l e d =
+    let s : i + 2 ≡ i + 1 + 1 = omega arith in
+    let t : odd + v + (even + w) ≡ odd + even + v + w = omega arith in
+    rw (s, t) (counting-more p (counting-more p u (omega arith) e) (omega arith) d)

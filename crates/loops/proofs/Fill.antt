@@ -1,11 +1,9 @@
 -- A loop that stores f 0, f 1, .. at `at`, at + 1, .. of a list l, one a turn: after n turns the list is `fill f l at n`.
 -- In a loop:  fill-none   before the first turn the list is l
 --             fill-step   a turn stores f n at at + n
--- Of the result:  length-fill; fill-in, what stands in the range; fill-below and fill-above, what stands outside it; take-fill and drop-fill, the same as lists.
--- `Filled` says the same entry by entry, and `filled` has it of `fill`.
+-- Of the result:  length-fill; fill-in, what stands in the range; fill-below, fill-above and drop-fill, what stands outside it; take-filled, the range as a list.
 -- Of several fills:  fill-cong   the same entries, the same list;  fill-join   one after the other is one;  fill-front   the first entry, and the rest;
---                    fill-two   two entries side by side;  upto-more   more entries, after those stored so far;  upto-from   a turn of a loop that begins at a
--- fill-list   what is filled from the first entry on is a list, and then the rest;  fill-part   a part filled and put back is the whole filled from there
+--                    set-fill   a store below the range;  fill-part   a part filled and put back is the whole filled from there
 -- Assumes nothing.
 use mathlib.Core.Path.{_≡_, refl, sym, _∙_, ap}
 use mathlib.Core.Logic.{⊎-elim}
@@ -14,7 +12,9 @@ use Prim.Native.Nat.{ℕ, zero, suc, _+_, _-_, _<_, _≤_}
 use native.Mathlib.Nat.{le-of-suc-le-suc, not-suc-le-zero, eq-or-lt-of-le, add-assoc, add-suc, add-zero, suc-add, zero-add}
 use native.Mathlib.Numerals.{add-one}
 use native.Mathlib.Omega.{arith}
+use Rattle.loops.specs.Loops.{listed}
 use Rattle.loops.specs.Fill.{fill}
+use Rattle.loops.proofs.Listed.{listed-cong, take-listed}
 use lib.ListN.{length, getD, set, take, drop, length-set, length-drop, take-append-drop}
 use lib.Seq.{getD-set-same, getD-set-other, drop-set-lt, set-append-left, length-take-le}
 
@@ -114,3 +114,22 @@ module _ {A : Type 0} where
       let front : length (take a w) ≡ a = length-take-le a w (omega arith) in
       set-middle (take a w) (fill f part at n) (drop k (drop a w)) (at + n) (f n) (rw (length-fill f part at n, long) (omega arith))
       ∙ rw (front, fill-part f w a k at n (omega arith) b, add-assoc a at n)
+
+-- ---- stores that do not meet
+
+pub set-swap : {A : Type 0} (l : List A) (i j : ℕ) (a b : A) → i < j → set (set l j b) i a ≡ set (set l i a) j b
+set-swap [] i j a b h = refl
+set-swap (x ∷ l) i zero a b h = absurd (not-suc-le-zero h)
+set-swap (x ∷ l) zero (suc j) a b h = refl
+set-swap {A} (x ∷ l) (suc i) (suc j) a b h = ap (λ (r : List A). x ∷ r) (set-swap l i j a b (le-of-suc-le-suc h))
+
+pub set-fill : {A : Type 0} (f : ℕ → A) (l : List A) (at n i : ℕ) (v : A) → i < at → set (fill f l at n) i v ≡ fill f (set l i v) at n
+unfolding fill
+set-fill f l at zero i v h = refl
+set-fill f l at (suc n) i v h = set-swap (fill f l at n) i (at + n) v (f n) (omega arith) ∙ rw (set-fill f l at n i v h)
+
+-- the entries that a loop has filled, from the first on
+pub take-filled : {A : Type 0} (d : A) (n : ℕ) (g : ℕ → A) (l : List A) → n ≤ length l → take n (fill g l 0 n) ≡ listed n g
+take-filled d n g l h =
+    take-listed d n (fill g l 0 n) (omega (arith, length-fill g l 0 n))
+    ∙ listed-cong n _ g (λ s b. rw (zero-add s) at (fill-in g l 0 d n s (omega arith) b))

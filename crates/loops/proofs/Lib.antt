@@ -5,3 +5,4 @@ pub mod Fill
 pub mod All
 pub mod First
 pub mod Counting
+pub mod Parts

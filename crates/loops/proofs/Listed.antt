@@ -1,11 +1,12 @@
 -- A list given by a function of the place: its length and its entries; entry s turns on f s alone. Assumes nothing.
-use mathlib.Core.Path.{_≡_, refl, ap}
+use mathlib.Core.Path.{_≡_, refl, sym, ap, _∙_}
 use mathlib.Core.Option.{some}
-use mathlib.Core.List.{_∷_, map}
-use Prim.Native.Nat.{ℕ, zero, suc, _<_, zero-le, suc-le-suc}
+use mathlib.Core.List.{List, _∷_, map}
+use Prim.Native.Nat.{ℕ, zero, suc, _<_, _≤_, zero-le, suc-le-suc}
 use native.Mathlib.Nat.{not-suc-le-zero, le-of-suc-le-suc}
 use native.Mathlib.Omega.{arith}
-use lib.ListN.{length, getD, getElem?}
+use lib.ListN.{length, getD, getElem?, take, replicate, length-replicate, getD-replicate}
+use lib.Seq.{ext-getD, getD-take, length-take-le}
 use Rattle.loops.specs.Loops.{listed}
 
 module _ {A : Type 0} where
@@ -58,3 +59,14 @@ pub map-listed : {A B : Type 0} (g : A → B) (n : ℕ) (f : ℕ → A) → map 
 unfolding listed
 map-listed g zero f = refl
 map-listed g (suc n) f = ap (λ r. g (f 0) ∷ r) (map-listed g n (λ s. f (suc s)))
+
+-- the first n entries of a list, entry by entry
+pub take-listed : {A : Type 0} (d : A) (n : ℕ) (l : List A) → n ≤ length l → take n l ≡ listed n (λ s. getD l s d)
+take-listed d n l h =
+    ext-getD d (take n l) (listed n (λ s. getD l s d)) (length-take-le n l h ∙ sym (length-listed n (λ s. getD l s d)))
+    (λ s q. let b : s < n = omega (arith, length-take-le n l h) in getD-take n l s d b ∙ sym (getD-listed n (λ s. getD l s d) s d b))
+
+pub listed-same : {A : Type 0} (n : ℕ) (v : A) → listed n (λ s. v) ≡ replicate n v
+listed-same n v =
+    ext-getD v (listed n (λ s. v)) (replicate n v) (length-listed n (λ s. v) ∙ sym (length-replicate n v))
+    (λ s q. let b : s < n = omega (arith, length-listed n (λ (s : ℕ). v)) in getD-listed n (λ s. v) s v b ∙ sym (getD-replicate n s v v b))

@@ -1,6 +1,7 @@
 -- What turns on a test goes by its two cases; two tests joined by `&&`. Assumes nothing.
-use mathlib.Core.Path.{_≡_, refl}
-use mathlib.Core.Bool.{Bool, true, false, _&&_, cond}
+use mathlib.Core.Path.{_≡_, refl, sym, _∙_}
+use mathlib.Core.Bool.{Bool, true, false, not, _&&_, cond}
+use borrow.Author.Tests.{not-true, not-false}
 
 pub and-false : (a : Bool) → a && false ≡ false
 and-false true = refl
@@ -17,3 +18,10 @@ cond-cong false h k = k refl
 pub cond-all : {A : Type 0} (P : A → Type 0) (b : Bool) {x y : A} → P x → P y → P (cond b x y)
 cond-all P true h k = h
 cond-all P false h k = k
+
+-- what a branch on the negation of a test's answer tells of the test
+pub is-yes : {r t : Bool} → r ≡ t → not r ≡ false → t ≡ true
+is-yes e h = sym e ∙ not-false _ h
+
+pub is-no : {r t : Bool} → r ≡ t → not r ≡ true → t ≡ false
+is-no e h = sym e ∙ not-true _ h

@@ -1,33 +1,20 @@
 -- Four rows in which the inner sections of a pipe are stored before the section above them: that is the same as to store upward from that section on. Each
 -- law is one of a single row that takes new numbers by a rule, from its own entry and the new number; heads and flows go by the rule that keeps the new
 -- number. Assumes nothing.
-use mathlib.Core.Path.{_≡_, refl, ap, ap₂, _∙_}
-use mathlib.Core.List.{List, [], _∷_}
+use mathlib.Core.Path.{_≡_, ap, ap₂, _∙_}
+use mathlib.Core.List.{List}
 use Prim.Native.Nat.{ℕ, zero, suc, _+_, _<_}
-use native.Mathlib.Nat.{le-of-suc-le-suc, not-suc-le-zero, add-zero}
+use native.Mathlib.Nat.{add-zero}
 use native.Mathlib.Omega.{arith}
 use lib.ListN.{set}
 use lib.Ieee.{Float}
 use Rattle.fields.specs.Real.{zero64}
 use Rattle.loops.specs.Fill.{fill}
-use Rattle.loops.proofs.Fill.{fill-cong, fill-below, fill-front}
+use Rattle.loops.proofs.Fill.{fill-cong, fill-below, fill-front, set-fill}
 use Rattle.wave.specs.declared.HeadFlow.{HeadFlow}
 use Rattle.rows.specs.Rows.{entry, enveloped}
 use Rattle.recurrence.specs.Step.{raised, lowered}
 use Rattle.rows.proofs.Stepping.{SteppedRows, SteppedTo}
-
--- ---- stores that do not meet
-
-set-swap : {A : Type 0} (l : List A) (i j : ℕ) (a b : A) → i < j → set (set l j b) i a ≡ set (set l i a) j b
-set-swap [] i j a b h = refl
-set-swap (x ∷ l) i zero a b h = absurd (not-suc-le-zero h)
-set-swap (x ∷ l) zero (suc j) a b h = refl
-set-swap {A} (x ∷ l) (suc i) (suc j) a b h = ap (λ (r : List A). x ∷ r) (set-swap l i j a b (le-of-suc-le-suc h))
-
-set-fill : {A : Type 0} (f : ℕ → A) (l : List A) (at n i : ℕ) (v : A) → i < at → set (fill f l at n) i v ≡ fill f (set l i v) at n
-unfolding fill
-set-fill f l at zero i v h = refl
-set-fill f l at (suc n) i v h = set-swap (fill f l at n) i (at + n) v (f n) (omega arith) ∙ rw (set-fill f l at n i v h)
 
 -- ---- one row
 

@@ -17,7 +17,8 @@ use Rattle.recurrence.specs.Step.{inputs, between}
 use Rattle.loops.proofs.All.{all-cong}
 use Rattle.rows.specs.Faults.{floorIn, soundWith}
 use Rattle.sweep.specs.Sweep.{innerAt, soundInner, CutToPipe, Floored}
-use Rattle.sweep.proofs.Parts.{part-length, part-at, r-part, r-part-finite, floor-part, floored-part}
+use Rattle.sweep.proofs.Parts.{r-part, r-part-finite, floor-part, floored-part}
+use Rattle.loops.proofs.Parts.{part-length, part-at}
 use Rattle.sweep.proofs.InState.{inner-is}
 use Rattle.ends.specs.Ends.{LaidPipe, Lent, old}
 use Rattle.ends.proofs.Accept.{Within, within, friction-length, friction-finite, friction-read}

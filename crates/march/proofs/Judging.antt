@@ -1,13 +1,12 @@
 -- The faults of a step, counted pipe by pipe: a count of several is 0 where each is, a test of all sections is a test of each pipe's in turn, and that of a
 -- pipe's is one of its ends and of those between. Assumes nothing.
-use mathlib.Core.Path.{_≡_, refl, sym, ap, ap₂, _∙_}
-use mathlib.Core.Bool.{Bool, true, false, cond, _&&_}
+use mathlib.Core.Path.{_≡_, sym, ap, ap₂, _∙_}
+use mathlib.Core.Bool.{Bool, cond, _&&_, and-assoc, and-comm}
 use mathlib.Core.List.{List}
 use Prim.Native.Nat.{ℕ, zero, suc, _+_, _-_, _*_, _<_, _≤_}
-use native.Mathlib.Nat.{add-zero, add-suc, zero-add}
+use native.Mathlib.Nat.{add-zero}
 use native.Mathlib.Numerals.{add-one}
 use native.Mathlib.Omega.{arith}
-use borrow.Author.Tests.{ne-eqb}
 use lib.Dec.{eqb}
 use lib.Ieee.{Float}
 use Rattle.loops.specs.Loops.{allBelow}
@@ -15,7 +14,8 @@ use Rattle.job.specs.Job.{Laid}
 use Rattle.job.specs.Format.{jobOf, pipeTable, initialTable, pipeCount}
 use Rattle.job.specs.Questions.{Accepted}
 use Rattle.recurrence.specs.Step.{inputs, between}
-use Rattle.loops.proofs.All.{all-cong}
+use Rattle.loops.proofs.All.{all-cong, all-join}
+use Rattle.loops.proofs.Counting.{zero-sum, one-told}
 use Rattle.rows.specs.Faults.{floorIn, faultAt, isSound, soundWith, counted}
 use Rattle.rows.proofs.Sound.{sound-any}
 use Rattle.ends.specs.Ends.{laidIn, LaidPipe, old, newSection}
@@ -23,35 +23,6 @@ use Rattle.ends.specs.Spare.{endIn, EndsAt}
 use Rattle.ends.proofs.Accept.{within}
 use Rattle.march.specs.March.{newBySpare}
 use Rattle.march.proofs.Spared.{start-new, inner-new, finish-new, by-spare}
-
--- ---- counts and tests
-
-and-assoc : (a b c : Bool) → (a && b) && c ≡ a && (b && c)
-and-assoc true b c = refl
-and-assoc false b c = refl
-
-and-swap : (a b : Bool) → a && b ≡ b && a
-and-swap true true = refl
-and-swap true false = refl
-and-swap false true = refl
-and-swap false false = refl
-
-and-true : (a : Bool) → a ≡ a && true
-and-true true = refl
-and-true false = refl
-
-zero-sum : (x y : ℕ) → eqb (x + y) 0 ≡ eqb x 0 && eqb y 0
-zero-sum zero y = rw (zero-add y)
-zero-sum (suc x) y = ne-eqb (suc x + y) 0 (λ e. omega arith) ∙ sym (ap (λ (t : Bool). t && eqb y 0) (ne-eqb (suc x) 0 (λ e. omega arith)))
-
-told : (b : Bool) → eqb (cond b 0 1) 0 ≡ b
-told true = refl
-told false = refl
-
-all-join : (p : ℕ → Bool) (a n : ℕ) → allBelow p (a + n) ≡ allBelow p a && allBelow (λ i. p (a + i)) n
-unfolding allBelow
-all-join p a zero = rw (add-zero a) (and-true (allBelow p a))
-all-join p a (suc n) = rw (add-suc a n, all-join p a n) (and-assoc (allBelow p a) (allBelow (λ i. p (a + i)) n) (p (a + n)))
 
 -- a pipe of n reaches: those between are counted by x, the start and the finish by y
 pipe-judged :
@@ -64,8 +35,8 @@ pipe-judged q n x y h ex ey =
     ap (allBelow q) (let e : n ≡ 1 + m = omega arith in e)
     ∙ all-join q 1 m
     ∙ ap (λ (t : Bool). q 0 && t) (all-cong m (λ i. q (1 + i)) (λ i. q (suc i)) (λ i k. ap q (let z : 1 + i ≡ suc i = omega arith in z))) in
-    let ends : eqb y 0 ≡ q 0 && q n = ap (λ (k : ℕ). eqb k 0) ey ∙ zero-sum (cond (q 0) 0 1) (cond (q n) 0 1) ∙ ap₂ _&&_ (told (q 0)) (told (q n)) in
-    zero-sum x y ∙ rw (ex, ends, add-one n, most) (sym (and-assoc inner (q 0) (q n)) ∙ ap (λ (t : Bool). t && q n) (and-swap inner (q 0)))
+    let ends : eqb y 0 ≡ q 0 && q n = ap (λ (k : ℕ). eqb k 0) ey ∙ zero-sum (cond (q 0) 0 1) (cond (q n) 0 1) ∙ ap₂ _&&_ (one-told (q 0)) (one-told (q n)) in
+    zero-sum x y ∙ rw (ex, ends, add-one n, most) (sym (and-assoc inner (q 0) (q n)) ∙ ap (λ (t : Bool). t && q n) (and-comm inner (q 0)))
 
 -- the pipes passed so far, and one more
 pub judged-more :

@@ -1,28 +1,25 @@
 -- The lent rows, each by its name: question 20, what they hold, and what a call leaves in them. Assumes nothing.
 -- enough-each, each-enough   question 20
 -- state-at, holds-point, holds-state, state-held   the state in the rows
--- rows-hold, row-left   the rows that a call leaves;  take-filled   a row that a loop fills
+-- rows-hold, row-left   the rows that a call leaves
 use mathlib.Core.Path.{_≡_, refl, sym, ap, ap₂, _∙_}
 use mathlib.Core.Bool.{Bool, true, _&&_, true≢false}
 use mathlib.Core.List.{List, [], _∷_, _++_, foldr, map}
 use Prim.Native.Nat.{ℕ, _≤_, _<_}
-use native.Mathlib.Nat.{zero-add}
 use native.Mathlib.Omega.{arith}
 use lib.Dec.{leb}
-use lib.ListN.{length, getD, take, drop, replicate, take-append-drop, length-map, length-replicate, getD-replicate, List·getD-map}
-use lib.Seq.{ext-getD, getD-take, length-take-le, take-at}
+use lib.ListN.{length, getD, take, drop, replicate, take-append-drop, length-map, length-replicate, List·getD-map}
+use lib.Seq.{ext-getD, getD-take, take-at}
 use lib.Ieee.{Float}
 use borrow.Author.Tests.{leb-true, le-leb}
 use Rattle.fields.specs.Real.{zero64}
 use Rattle.loops.specs.Loops.{listed}
-use Rattle.loops.specs.Fill.{fill}
-use Rattle.loops.proofs.Fill.{length-fill, fill-in}
 use Rattle.job.specs.Job.{Job, sections}
 use Rattle.recurrence.specs.State.{Point, State, noPoint, pointAt}
 use Rattle.recurrence.specs.Calls.{Row, heads, flows, highest, lowest, allRows, Rows, inUse, enoughLent, pointIn, stateIn, holds, rowsOf}
 use Rattle.recurrence.specs.Lent.{Holds}
 use Rattle.loops.proofs.Tests.{both}
-use Rattle.loops.proofs.Listed.{length-listed, getD-listed, map-listed, listed-cong}
+use Rattle.loops.proofs.Listed.{take-listed, length-listed, getD-listed, map-listed}
 use Rattle.recurrence.proofs.Runs.{Sized}
 use Rattle.recurrence.proofs.EachRow.{EachOf, each, untupled}
 
@@ -84,21 +81,16 @@ module _ (j : Job) (r : Rows) (st : State) (h : Holds j r st) (sized : Sized j s
       (ext-getD noPoint (listed (sections j) (pointIn r)) (st .points) (length-listed (sections j) (pointIn r) ∙ sym sized)
       (λ s l. let q : s < sections j = omega (arith, length-listed (sections j) (pointIn r)) in getD-listed (sections j) (pointIn r) s noPoint q ∙ holds-point s q))
 
-take-listed : (n : ℕ) (l : List Float) → n ≤ length l → take n l ≡ listed n (λ s. getD l s zero64)
-take-listed n l h =
-    ext-getD zero64 (take n l) (listed n (λ s. getD l s zero64)) (length-take-le n l h ∙ sym (length-listed n (λ s. getD l s zero64)))
-    (λ s q. let b : s < n = omega (arith, length-take-le n l h) in getD-take n l s zero64 b ∙ sym (getD-listed n (λ s. getD l s zero64) s zero64 b))
-
 -- rows hold the state that is read from them
 pub state-held : (j : Job) (r : Rows) → Enough j r → Holds j r (stateIn j r)
 unfolding holds stateIn pointIn
 state-held j r long =
     let n = sections j in
     each _
-    (λ _. take-listed n (r heads) (long heads) ∙ sym (map-listed (λ p. p .head) n (pointIn r)))
-    (λ _. take-listed n (r flows) (long flows) ∙ sym (map-listed (λ p. p .flow) n (pointIn r)))
-    (λ _. take-listed n (r highest) (long highest) ∙ sym (map-listed (λ p. p .highest) n (pointIn r)))
-    (λ _. take-listed n (r lowest) (long lowest) ∙ sym (map-listed (λ p. p .lowest) n (pointIn r)))
+    (λ _. take-listed zero64 n (r heads) (long heads) ∙ sym (map-listed (λ p. p .head) n (pointIn r)))
+    (λ _. take-listed zero64 n (r flows) (long flows) ∙ sym (map-listed (λ p. p .flow) n (pointIn r)))
+    (λ _. take-listed zero64 n (r highest) (long highest) ∙ sym (map-listed (λ p. p .highest) n (pointIn r)))
+    (λ _. take-listed zero64 n (r lowest) (long lowest) ∙ sym (map-listed (λ p. p .lowest) n (pointIn r)))
     (λ f. absurd (true≢false (sym f)))
 
 -- ---- the rows that a call leaves
@@ -118,15 +110,3 @@ module _ (j : Job) (st : State) (lent : Rows) where
   pub row-left : (x : Row) (l : List Float) → take (inUse j x) l ≡ holds j st x → drop (inUse j x) l ≡ drop (inUse j x) (lent x) → l ≡ rowsOf j st lent x
   unfolding rowsOf
   row-left x l h rest = sym (take-append-drop (inUse j x) l) ∙ ap₂ _++_ h rest
-
--- ---- a row that a loop fills
-
-pub take-filled : (n : ℕ) (g : ℕ → Float) (l : List Float) → n ≤ length l → take n (fill g l 0 n) ≡ listed n g
-take-filled n g l h =
-    take-listed n (fill g l 0 n) (omega (arith, length-fill g l 0 n))
-    ∙ listed-cong n _ g (λ s b. rw (zero-add s) at (fill-in g l 0 zero64 n s (omega arith) b))
-
-pub listed-same : (n : ℕ) (v : Float) → listed n (λ s. v) ≡ replicate n v
-listed-same n v =
-    ext-getD v (listed n (λ s. v)) (replicate n v) (length-listed n (λ s. v) ∙ sym (length-replicate n v))
-    (λ s q. let b : s < n = omega (arith, length-listed n (λ (s : ℕ). v)) in getD-listed n (λ s. v) s v b ∙ sym (getD-replicate n s v v b))

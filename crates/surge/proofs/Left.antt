@@ -21,9 +21,10 @@ use Rattle.recurrence.specs.Calls as row
 use Rattle.recurrence.specs.Calls.{Row, Rows, gathered, every, inUse, enoughLent, stateIn, holds, rowsOf, rowsAfter, readFirst, called, startResult, startCall, runOnResult, runOnCall}
 use Rattle.recurrence.specs.Lent.{carried}
 use Rattle.loops.proofs.Tests.{both}
-use Rattle.loops.proofs.Listed.{map-listed}
+use Rattle.loops.proofs.Listed.{map-listed, listed-same}
 use Rattle.recurrence.proofs.EachRow.{each}
-use Rattle.recurrence.proofs.RowLaws.{Enough, state-held, row-left, take-filled, listed-same}
+use Rattle.recurrence.proofs.RowLaws.{Enough, state-held, row-left}
+use Rattle.loops.proofs.Fill.{take-filled}
 use Rattle.surge.specs.declared.answer.Answer.{Answer}
 use Rattle.surge.specs.declared.answer.Answer.the-variants.{Refused, Done}
 use Rattle.steps.specs.declared.Ended.{Ended}
@@ -114,7 +115,7 @@ module _ (job : List ℕ) (r : Rows) (ok : Accepted job) where
       → drop (inUse accepted x) base ≡ drop (inUse accepted x) (r x) → l ≡ fill g base 0 m → listed (inUse accepted x) g ≡ holds accepted st x → l ≡ rowsOf accepted st r x
   filled-left st x g base {l} e long rest filled h =
       let up-to : l ≡ fill g base 0 (inUse accepted x) = filled ∙ ap (fill g base 0) e in
-      row-left accepted st r x l (ap (take (inUse accepted x)) up-to ∙ take-filled (inUse accepted x) g base long ∙ h) (filled-rest g base (inUse accepted x) up-to ∙ rest)
+      row-left accepted st r x l (ap (take (inUse accepted x)) up-to ∙ take-filled zero64 (inUse accepted x) g base long ∙ h) (filled-rest g base (inUse accepted x) up-to ∙ rest)
 
   -- the spare cleared over one that past the entries in use is as lent
   spare-left : (st : State) (base : List Float) {l : List Float} → inUse accepted row.spare ≤ length base

@@ -1,11 +1,10 @@
 -- The faults of a pipe's inner sections, counted two a turn: what a section adds that is worked out from the CP carried to it. Assumes nothing.
 use mathlib.Core.Path.{_≡_, ap, ap₂, _∙_}
-use mathlib.Core.Bool.{Bool, cond}
+use mathlib.Core.Bool.{cond}
 use mathlib.Core.List.{List}
-use Prim.Native.Nat.{ℕ, suc, _+_, _≤_}
+use Prim.Native.Nat.{ℕ, suc, _+_}
 use native.Mathlib.Omega.{arith}
 use lib.Ieee.{Float}
-use Rattle.loops.proofs.Counting.{Counting, counting-more}
 use Rattle.wave.specs.declared.HeadFlow.{HeadFlow}
 use Rattle.rows.specs.Faults.{floorIn, counted}
 use Rattle.sweep.specs.declared.TwoCp.{TwoCp}
@@ -26,12 +25,3 @@ module _ (friction floors : List ℕ) (S : Float) (heads flows : List Float) whe
 
     pub adds-second : v ≡ counted (floorIn floors (suc (i + 1))) (byCp friction S (cp .second) heads flows (i + 1)) → v ≡ cond (soundInner friction floors S heads flows (i + 1)) 0 1
     adds-second h = h ∙ ap (counted (floorIn floors (suc (i + 1)))) (by-own-cp friction S heads flows (i + 1) (second-cp friction S heads flows i e))
-
--- a turn that looks at two, each with a counter of its own
-pub two-counted :
-    (p : ℕ → Bool) (odd even : ℕ) {n i v w : ℕ} → Counting p n i (odd + even) → i + 2 ≤ n → v ≡ cond (p i) 0 1 → w ≡ cond (p (i + 1)) 0 1
-    → Counting p n (i + 2) (odd + v + (even + w))
-two-counted p odd even {n} {i} {v} {w} u l e d =
-    let s : i + 2 ≡ i + 1 + 1 = omega arith in
-    let t : odd + v + (even + w) ≡ odd + even + v + w = omega arith in
-    rw (s, t) (counting-more p (counting-more p u (omega arith) e) (omega arith) d)

@@ -4,25 +4,18 @@ use mathlib.Core.Bool.{true}
 use mathlib.Core.List.{List}
 use Prim.Native.Nat.{ℕ, _+_, _*_, _≤_, _<_}
 use native.Mathlib.Omega.{arith}
-use lib.ListN.{length, getD, take, drop, length-drop}
-use lib.Seq.{length-take-le, getD-take, getD-drop}
+use lib.ListN.{length, getD, take, drop}
 use lib.Ieee.{binary64, ofBits}
 use lib.Ieee.Scale.{finite}
 use Rattle.loops.specs.Loops.{allBelow}
 use Rattle.loops.proofs.All.{all-of}
+use Rattle.loops.proofs.Parts.{part-length, part-at}
 use Rattle.fields.specs.Bytes.{u64At, f64At}
 use Rattle.job.specs.Format.{rIn}
 use Rattle.job.specs.Questions.{initialFits}
 use Rattle.rows.specs.Faults.{floorIn}
 use Rattle.rows.proofs.Sound.{floor-finite}
 use Rattle.sweep.specs.Sweep.{Floored}
-
-module _ {A : Type 0} (l : List A) (a k : ℕ) where
-  pub part-length : a + k ≤ length l → length (take k (drop a l)) ≡ k
-  part-length h = length-take-le k (drop a l) (rw (length-drop a l) (omega arith))
-
-  pub part-at : (i : ℕ) (d : A) → i < k → getD (take k (drop a l)) i d ≡ getD l (a + i) d
-  part-at i d h = getD-take k (drop a l) i d h ∙ getD-drop a l i d
 
 module _ (l : List ℕ) (a k at : ℕ) (h : at + 8 ≤ k) where
   byte : (j : ℕ) → j < 8 → getD (take k (drop a l)) (at + j) 0 ≡ getD l (a + at + j) 0

@@ -6,7 +6,7 @@ use Rattle.job.specs.Job.{Job, sections}
 use Rattle.job.specs.Format.{jobOf}
 use Rattle.job.specs.Questions.{Accepted}
 use Rattle.job.specs.Answer.{paperAnswer}
-use Rattle.job.proofs.FirstNo.{is-yes, is-no}
+use Rattle.loops.proofs.Tests.{is-yes, is-no}
 use Rattle.job.proofs.AnswerLaws.{refused-is, accepted-is}
 use Rattle.recurrence.specs.Calls.{Rows, enoughLent}
 use Rattle.recurrence.specs.Slices.{lent}

@@ -1,5 +1,5 @@
 -- `job::nodes::first_no` meets its contract: at each return the questions before it have a yes. Assumes nothing.
-use Rattle.job.proofs.FirstNo.{is-yes, is-no}
+use Rattle.loops.proofs.Tests.{is-yes, is-no}
 use Rattle.job.specs.Questions.{nodeQuestions, firstNo}
 use borrow.Author.Needs.{needs}
 use Rattle.job.proofs.nodes.first_no.Statement.{statement}

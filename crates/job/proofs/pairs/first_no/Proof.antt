@@ -1,6 +1,6 @@
 -- `job::pairs::first_no` meets its contract: at each return the questions before it have a yes. Assumes nothing.
 use native.Mathlib.Omega.{arith}
-use Rattle.job.proofs.FirstNo.{is-yes, is-no}
+use Rattle.loops.proofs.Tests.{is-yes, is-no}
 use Rattle.job.proofs.Tables.{size-least, five-pairs}
 use Rattle.job.specs.Questions.{pairQuestions, firstNo}
 use borrow.Author.Needs.{needs}

@@ -4,7 +4,7 @@ use native.Mathlib.Omega.{arith}
 use denote.Ref.{now}
 use Rattle.job.specs.Format.{pipeTable, nodeTable, frictionTable, initialTable, scheduleTable}
 use Rattle.job.specs.Questions.{frictionRight, initialRight, schedulesRight, valueQuestions, firstNo}
-use Rattle.job.proofs.FirstNo.{is-yes, is-no}
+use Rattle.loops.proofs.Tests.{is-yes, is-no}
 use Rattle.job.proofs.Tables.{pairs-right, table-short}
 use borrow.Author.Needs.{needs}
 use Rattle.job.proofs.values.first_no.Statement.{statement}

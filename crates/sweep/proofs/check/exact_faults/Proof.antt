@@ -5,9 +5,9 @@ use Prim.Native.Nat.{_+_, _-_, _≤_}
 use native.Mathlib.Omega.{arith}
 use lib.ListN.{length}
 use denote.Ref.{now}
-use Rattle.loops.proofs.Counting.{Counting, counting-none, counting-more, counting-done}
+use Rattle.loops.proofs.Counting.{Counting, counting-none, counting-more, counting-done, two-counted}
 use Rattle.sweep.specs.Sweep.{twoCpAt, soundInner}
-use Rattle.sweep.proofs.Counted.{adds-first, adds-second, two-counted}
+use Rattle.sweep.proofs.Counted.{adds-first, adds-second}
 use Rattle.sweep.proofs.check.exact_faults.Statement.{statement}
 use Rattle.sweep.proofs.check.exact_faults.Tie as tie
 
