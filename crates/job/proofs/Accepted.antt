@@ -14,9 +14,9 @@ use Rattle.loops.proofs.All.{all-at}
 use Rattle.job.specs.Job.{Pipe, sectionsOf, sections}
 use Rattle.job.specs.Format.{pipeTable, nodeTable, frictionTable, initialTable, scheduleTable, pipeCount, pipeIn, pipesIn, reachesOf, nodeCount, nodesIn, jobOf}
 use Rattle.job.specs.Questions.{holdsRecords, joins, pipesJoin, sectionsFit, constantFits, constantsFit, kindsFit, figuresFit, nodesMet, frictionFits, frictionRight, hasLength, initialFits, initialRight, schedulesRight, pipeQuestions, nodeQuestions, valueQuestions, firstNo, Accepted}
-use Rattle.job.specs.Asked.{NodesRight}
+use Rattle.job.specs.QuestionParts.{NodesRight}
 use Rattle.job.proofs.FirstNo.{yes, none-refused}
-use Rattle.job.proofs.Tables.{PairsRight, pairs-right}
+use Rattle.job.proofs.TableBounds.{PairsRight, pairs-right}
 use Rattle.loops.proofs.Tests.{both}
 use Rattle.loops.proofs.Listed.{length-listed, listed-some}
 

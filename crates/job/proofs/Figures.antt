@@ -104,8 +104,8 @@ edges-are-judged = (refl, refl, refl, refl, refl, refl)
 -- the second pipe's sections begin after the first's two, and its reaches after the first's one
 pub second-pipe-is-laid :
     laid (jobOf jobOfAllKinds)
-    ≡ record { pipe = record { start = 0; finish = 1; reaches = 1; S = one64 }; first = 0; reach = 0 }
-    ∷ record { pipe = record { start = 2; finish = 3; reaches = 3; S = two64 }; first = 2; reach = 1 }
+    ≡ record { pipe = record { start = 0; finish = 1; reaches = 1; S = one64 }; firstSection = 0; firstReach = 0 }
+    ∷ record { pipe = record { start = 2; finish = 3; reaches = 3; S = two64 }; firstSection = 2; firstReach = 1 }
     ∷ []
 unfolding laid laidFrom
 second-pipe-is-laid = rw job-of-all-kinds-is-read

@@ -30,17 +30,18 @@ first-join (q ∷ qs) ys job h = go (eqb (q .0) 0) (numbered qs) (q .1 job) h re
 
 pub refusal-is :
     (job : List ℕ)
-    → refusal job ≡ orElse (orElse (orElse (firstNo pairQuestions job) (firstNo pipeQuestions job)) (firstNo nodeQuestions job)) (firstNo valueQuestions job)
+    → refusal job ≡ orElse (firstNo pairQuestions job) (orElse (firstNo pipeQuestions job) (orElse (firstNo nodeQuestions job) (firstNo valueQuestions job)))
 unfolding refusal questions pairQuestions pipeQuestions nodeQuestions
 refusal-is job =
-    first-join (pairQuestions ++ pipeQuestions ++ nodeQuestions) valueQuestions job refl
-    ∙ rw (first-join (pairQuestions ++ pipeQuestions) nodeQuestions job refl, first-join pairQuestions pipeQuestions job refl)
+    first-join pairQuestions (pipeQuestions ++ (nodeQuestions ++ valueQuestions)) job refl
+    ∙ rw (first-join pipeQuestions (nodeQuestions ++ valueQuestions) job refl, first-join nodeQuestions valueQuestions job refl)
 
-pub keeps : (m n : ℕ) → (m ≡ 0 → ⊥) → orElse m n ≡ m
-keeps m n h = rw (ne-eqb m 0 h)
+-- an answer r of the first part decides, or where it is 0 leaves it to the parts after it
+pub decides : {m r : ℕ} (n : ℕ) → r ≡ m → (r ≡ 0 → ⊥) → r ≡ orElse m n
+decides {m} {r} n e h = rw (← e, ne-eqb r 0 h)
 
-pub goes-on : (m n : ℕ) → m ≡ 0 → orElse m n ≡ n
-goes-on m n h = rw (eq-eqb m 0 h)
+pub goes-on : {m n r : ℕ} → r ≡ m → r ≡ 0 → n ≡ orElse m n
+goes-on {m} {n} {r} e h = rw (← e, eq-eqb r 0 h)
 
 none-of-both : (m n : ℕ) → orElse m n ≡ 0 → (m ≡ 0) × (n ≡ 0)
 none-of-both m n = go (eqb m 0) refl
@@ -58,10 +59,10 @@ pub record NoneRefused (job : List ℕ) : Type 0 where
 
 pub none-refused : (job : List ℕ) → Accepted job → NoneRefused job
 none-refused job h =
-    let v = none-of-both _ _ (sym (refusal-is job) ∙ h) in
-    let n = none-of-both _ _ (v .0) in
-    let p = none-of-both _ _ (n .0) in
-    record { pairs = p .0; pipes = p .1; nodes = n .1; values = v .1 }
+    let p = none-of-both _ _ (sym (refusal-is job) ∙ h) in
+    let q = none-of-both _ _ (p .1) in
+    let n = none-of-both _ _ (q .1) in
+    record { pairs = p .0; pipes = q .0; nodes = n .0; values = n .1 }
 
 -- a row that is passed: its test is true, and the rows after it have no first no either
 pub yes : (t : Bool) (n m : ℕ) → cond t m (suc n) ≡ 0 → (t ≡ true) × (m ≡ 0)

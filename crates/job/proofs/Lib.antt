@@ -1,8 +1,8 @@
 pub mod Figures
-pub mod Laid
+pub mod WalkLaws
 pub mod Places
 pub mod FirstNo
-pub mod Tables
+pub mod TableBounds
 pub mod NodeLaws
 pub mod SectionLaws
 pub mod Accepted

@@ -8,11 +8,11 @@ use native.Mathlib.Numerals.{add-one}
 use native.Mathlib.Omega.{arith}
 use Rattle.job.specs.Format.{placeOf, scheduleCount}
 
-pub place-more : (nodes : List ℕ) (y : ℕ) → placeOf nodes (y + 1) ≡ placeOf nodes y + scheduleCount nodes y
+pub place-more : (nodes : List ℕ) (node : ℕ) → placeOf nodes (node + 1) ≡ placeOf nodes node + scheduleCount nodes node
 unfolding placeOf
-place-more nodes y = rw (add-one y)
+place-more nodes node = rw (add-one node)
 
-pub place-rises : (nodes : List ℕ) (y n : ℕ) → y ≤ n → placeOf nodes y ≤ placeOf nodes n
+pub place-rises : (nodes : List ℕ) (node n : ℕ) → node ≤ n → placeOf nodes node ≤ placeOf nodes n
 unfolding placeOf
-place-rises nodes y zero l = let e : y ≡ 0 = omega arith in rw e (le-refl _)
-place-rises nodes y (suc n) l = ⊎-elim (λ e. rw e (le-refl _)) (λ o. omega (arith, place-rises nodes y n (le-of-suc-le-suc o))) (eq-or-lt-of-le l)
+place-rises nodes node zero l = let e : node ≡ 0 = omega arith in rw e (le-refl _)
+place-rises nodes node (suc n) l = ⊎-elim (λ e. rw e (le-refl _)) (λ o. omega (arith, place-rises nodes node n (le-of-suc-le-suc o))) (eq-or-lt-of-le l)

@@ -10,9 +10,9 @@ use Rattle.loops.specs.Loops.{allBelow}
 use Rattle.loops.proofs.All.{all-at, all-both}
 use Rattle.job.specs.Job.{Initial}
 use Rattle.job.specs.Format.{rIn, frictionIn, sectionIn, initialIn}
-use Rattle.job.specs.FromTables.{rOf, initialOf}
+use Rattle.job.specs.TableEntries.{rOf, initialOf}
 use Rattle.job.specs.Questions.{notBelowZero, rFits, frictionFits, finiteSection, sectionFits, initialFits}
-use Rattle.job.specs.Asked.{numbersFinite, eachFinite, noneBelowZero, sectionsFinite, notBelowFloor, noneBelowFloor}
+use Rattle.job.specs.QuestionParts.{numbersFinite, eachFinite, noneBelowZero, sectionsFinite, notBelowFloor, noneBelowFloor}
 use Rattle.loops.proofs.Tests.{both}
 use Rattle.loops.proofs.Listed.{getD-listed}
 

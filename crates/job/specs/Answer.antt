@@ -15,9 +15,9 @@ pub data ReadAnswer : Type 0 where
   accepted : ℕ → ℕ → ReadAnswer
 
 -- each case of the code's enum, in document 01's terms
-abbrev pub paperAnswer : Read → ReadAnswer
-paperAnswer (Refused n) = refused n
-paperAnswer (Accepted s m) = accepted s m
+abbrev pub paperRead : Read → ReadAnswer
+paperRead (Refused n) = refused n
+paperRead (Accepted s m) = accepted s m
 
 -- what `read` is to answer
 unfoldable pub readAnswer : List ℕ → ReadAnswer

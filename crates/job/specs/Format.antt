@@ -74,28 +74,28 @@ abbrev pub nodeCount : List ℕ → ℕ
 nodeCount nodes = length nodes / 26
 
 abbrev pub kindNumber : List ℕ → ℕ → ℕ
-kindNumber nodes y = u8At nodes (y * 26)
+kindNumber nodes node = u8At nodes (node * 26)
 
 abbrev pub scheduleCount : List ℕ → ℕ → ℕ
-scheduleCount nodes y = u8At nodes (y * 26 + 1)
+scheduleCount nodes node = u8At nodes (node * 26 + 1)
 
 -- the figures a, b, c of a node
 abbrev pub aOf : List ℕ → ℕ → Float
-aOf nodes y = f64At nodes (y * 26 + 2)
+aOf nodes node = f64At nodes (node * 26 + 2)
 
 abbrev pub bOf : List ℕ → ℕ → Float
-bOf nodes y = f64At nodes (y * 26 + 10)
+bOf nodes node = f64At nodes (node * 26 + 10)
 
 abbrev pub cOf : List ℕ → ℕ → Float
-cOf nodes y = f64At nodes (y * 26 + 18)
+cOf nodes node = f64At nodes (node * 26 + 18)
 
 -- "0, junction", "1, reservoir", "2, valve", "3, pump"
 unfoldable pub kindIn : List ℕ → ℕ → Kind
-kindIn nodes y =
-    cond (eqb (kindNumber nodes y) 0) junction
-    (cond (eqb (kindNumber nodes y) 1) reservoir
-    (cond (eqb (kindNumber nodes y) 2) (valve (aOf nodes y) (bOf nodes y))
-    (pump (aOf nodes y) (bOf nodes y) (cOf nodes y))))
+kindIn nodes node =
+    cond (eqb (kindNumber nodes node) 0) junction
+    (cond (eqb (kindNumber nodes node) 1) reservoir
+    (cond (eqb (kindNumber nodes node) 2) (valve (aOf nodes node) (bOf nodes node))
+    (pump (aOf nodes node) (bOf nodes node) (cOf nodes node))))
 
 -- ---- "3. One f64 R per reach, pipe by pipe."
 
@@ -116,17 +116,17 @@ initialIn initial = listed (length initial / 24) (sectionIn initial)
 
 -- ---- "5. f64 schedules, in node order, end to end."
 
--- the number of entries before those of node y
+-- the number of entries before a node's
 unfoldable pub placeOf : List ℕ → ℕ → ℕ
 placeOf nodes zero = 0
-placeOf nodes (suc y) = placeOf nodes y + scheduleCount nodes y
+placeOf nodes (suc node) = placeOf nodes node + scheduleCount nodes node
 
 abbrev pub entryIn : List ℕ → ℕ → Float
 entryIn schedules i = f64At schedules (i * 8)
 
 unfoldable pub nodeIn : List ℕ → List ℕ → ℕ → ScheduledNode
-nodeIn nodes schedules y =
-    record { kind = kindIn nodes y; schedule = listed (scheduleCount nodes y) (λ i. entryIn schedules (placeOf nodes y + i)) }
+nodeIn nodes schedules node =
+    record { kind = kindIn nodes node; schedule = listed (scheduleCount nodes node) (λ i. entryIn schedules (placeOf nodes node + i)) }
 
 unfoldable pub nodesIn : List ℕ → List ℕ → List ScheduledNode
 nodesIn nodes schedules = listed (nodeCount nodes) (nodeIn nodes schedules)

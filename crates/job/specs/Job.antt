@@ -42,14 +42,14 @@ pub record Job : Type 0 where
 
 pub record Laid : Type 0 where
   pub pipe : Pipe
-  pub first : ℕ
-  pub reach : ℕ
+  pub firstSection : ℕ
+  pub firstReach : ℕ
 
 -- A pipe of n reaches has n + 1 sections.
 unfoldable pub laidFrom : ℕ → ℕ → List Pipe → List Laid
 laidFrom section reach [] = []
 laidFrom section reach (p ∷ ps) =
-    record { pipe = p; first = section; reach = reach } ∷ laidFrom (section + suc (p .reaches)) (reach + p .reaches) ps
+    record { pipe = p; firstSection = section; firstReach = reach } ∷ laidFrom (section + suc (p .reaches)) (reach + p .reaches) ps
 
 unfoldable pub laid : Job → List Laid
 laid j = laidFrom 0 0 (j .pipes)
@@ -69,7 +69,7 @@ unfoldable pub frictionAt : Job → ℕ → Float
 frictionAt j r = getD (j .friction) r zero64
 
 unfoldable pub nodeAt : Job → ℕ → ScheduledNode
-nodeAt j y = getD (j .nodes) y record { kind = junction; schedule = [] }
+nodeAt j node = getD (j .nodes) node record { kind = junction; schedule = [] }
 
 unfoldable pub initialAt : Job → ℕ → Initial
 initialAt j s = getD (j .initial) s record { head = zero64; flow = zero64; floor = zero64 }
@@ -84,7 +84,7 @@ entryAt vs n = getD vs (min n (length vs) - 1) zero64
 
 -- v of a node at step n
 unfoldable pub scheduled : Job → ℕ → ℕ → Float
-scheduled j n y = entryAt (nodeAt j y .schedule) n
+scheduled j n node = entryAt (nodeAt j node .schedule) n
 
 -- a kind with its scheduled value v: the node as the solver takes it
 unfoldable pub withValue : Kind → Float → Wave.Node

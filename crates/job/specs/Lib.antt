@@ -1,8 +1,9 @@
 pub mod Job
 pub mod Format
 pub mod Questions
-pub mod Asked
+pub mod QuestionParts
 pub mod Answer
-pub mod FromTables
+pub mod TableEntries
+pub mod Walk
 pub mod JobQ
 pub mod OwnJobs

@@ -70,49 +70,49 @@ constantsFit pipes = allBelow (λ p. constantFits (pipeIn pipes p)) (pipeCount p
 
 -- 10 "Is each kind 0 to 3 and each schedule count at least 1?"
 unfoldable pub kindFits : List ℕ → ℕ → Bool
-kindFits nodes y = leb (kindNumber nodes y) 3 && leb 1 (scheduleCount nodes y)
+kindFits nodes node = leb (kindNumber nodes node) 3 && leb 1 (scheduleCount nodes node)
 
 unfoldable pub kindsFit : List ℕ → Bool
 kindsFit nodes = allBelow (kindFits nodes) (nodeCount nodes)
 
 -- 11 "Are a, b, c finite, valve a and pump a, b not below zero, fields the kind doesn't name all zero bits?"
 unfoldable pub allFinite : List ℕ → ℕ → Bool
-allFinite nodes y = finite (aOf nodes y) && finite (bOf nodes y) && finite (cOf nodes y)
+allFinite nodes node = finite (aOf nodes node) && finite (bOf nodes node) && finite (cOf nodes node)
 
 abbrev pub zeroA : List ℕ → ℕ → Bool
-zeroA nodes y = zeroBitsAt nodes (y * 26 + 2)
+zeroA nodes node = zeroBitsAt nodes (node * 26 + 2)
 
 abbrev pub zeroB : List ℕ → ℕ → Bool
-zeroB nodes y = zeroBitsAt nodes (y * 26 + 10)
+zeroB nodes node = zeroBitsAt nodes (node * 26 + 10)
 
 abbrev pub zeroC : List ℕ → ℕ → Bool
-zeroC nodes y = zeroBitsAt nodes (y * 26 + 18)
+zeroC nodes node = zeroBitsAt nodes (node * 26 + 18)
 
 unfoldable pub hasNoFigures : List ℕ → ℕ → Bool
-hasNoFigures nodes y = zeroA nodes y && zeroB nodes y && zeroC nodes y
+hasNoFigures nodes node = zeroA nodes node && zeroB nodes node && zeroC nodes node
 
 unfoldable pub valveFits : List ℕ → ℕ → Bool
-valveFits nodes y = notBelowZero (aOf nodes y) && zeroC nodes y
+valveFits nodes node = notBelowZero (aOf nodes node) && zeroC nodes node
 
 unfoldable pub pumpFits : List ℕ → ℕ → Bool
-pumpFits nodes y = notBelowZero (aOf nodes y) && notBelowZero (bOf nodes y)
+pumpFits nodes node = notBelowZero (aOf nodes node) && notBelowZero (bOf nodes node)
 
 unfoldable pub figuresFitKind : List ℕ → ℕ → Bool
-figuresFitKind nodes y =
-    cond (eqb (kindNumber nodes y) 2) (valveFits nodes y) (cond (eqb (kindNumber nodes y) 3) (pumpFits nodes y) (hasNoFigures nodes y))
+figuresFitKind nodes node =
+    cond (eqb (kindNumber nodes node) 2) (valveFits nodes node) (cond (eqb (kindNumber nodes node) 3) (pumpFits nodes node) (hasNoFigures nodes node))
 
 unfoldable pub figureFits : List ℕ → ℕ → Bool
-figureFits nodes y = allFinite nodes y && figuresFitKind nodes y
+figureFits nodes node = allFinite nodes node && figuresFitKind nodes node
 
 unfoldable pub figuresFit : List ℕ → Bool
 figuresFit nodes = allBelow (figureFits nodes) (nodeCount nodes)
 
 -- 12 "Has each node a pipe end?" Not every pipe has none there.
 unfoldable pub endsAt : ℕ → Pipe → Bool
-endsAt y q = eqb (q .start) y || eqb (q .finish) y
+endsAt node q = eqb (q .start) node || eqb (q .finish) node
 
 unfoldable pub hasEnd : List ℕ → ℕ → Bool
-hasEnd pipes y = not (allBelow (λ p. not (endsAt y (pipeIn pipes p))) (pipeCount pipes))
+hasEnd pipes node = not (allBelow (λ p. not (endsAt node (pipeIn pipes p))) (pipeCount pipes))
 
 unfoldable pub nodesMet : List ℕ → ℕ → Bool
 nodesMet pipes count = allBelow (hasEnd pipes) count
@@ -151,8 +151,8 @@ unfoldable pub entryFits : ℕ → Float → Bool
 entryFits kind v = finite v && (ltb kind 2 || notBelowZero v && not (lt one64 v))
 
 unfoldable pub scheduleFits : List ℕ → List ℕ → ℕ → Bool
-scheduleFits nodes schedules y =
-    allBelow (λ i. entryFits (kindNumber nodes y) (entryIn schedules (placeOf nodes y + i))) (scheduleCount nodes y)
+scheduleFits nodes schedules node =
+    allBelow (λ i. entryFits (kindNumber nodes node) (entryIn schedules (placeOf nodes node + i))) (scheduleCount nodes node)
 
 unfoldable pub schedulesFit : List ℕ → List ℕ → Bool
 schedulesFit nodes schedules = allBelow (scheduleFits nodes schedules) (nodeCount nodes)

@@ -3,7 +3,7 @@ ghost use mathlib.Core.Path.{_≡_};
 ghost use Prim.Native.Nat.{_+_, _*_, _<_, _≤_};
 ghost use lib.ListN.{length};
 ghost use Rattle.job.specs.Format.{pairCount, listingSteps, pairsAsked, pairsEnd, offsetOf, lengthOf, table};
-ghost use Rattle.job.specs.Questions.{sizeFits, pairsFit, tablesFollow, stepsFit, pairQuestions, firstNo};
+ghost use Rattle.job.specs.Questions.{sizeFits, pairsFit, tablesFollow, pairQuestions, firstNo};
 
 // The number of pairs that a job must have.
 const PAIRS: usize = 5;
@@ -80,14 +80,6 @@ fn tables_follow(job: &[u8]) -> bool
     begin == job.len()
 }
 
-// 4
-fn steps_fit(job: &[u8]) -> bool
-    requires { ⌜ 6 ≤ length (now job) ⌝ }
-    ensures { λ r. ⌜ r ≡ stepsFit (now (job .entry)) ⌝ }
-{
-    listing_steps(job) <= 1000000
-}
-
 // The first of questions 1 to 4 with a no, or 0.
 pub fn first_no(job: &[u8]) -> usize
     ensures { λ r. ⌜ r ≡ firstNo pairQuestions (now (job .entry)) ⌝ }
@@ -98,13 +90,9 @@ pub fn first_no(job: &[u8]) -> usize
     if !pairs_fit(job) {
         return 2;
     }
-    if !tables_follow(job) {
-        return 3;
-    }
-    if !steps_fit(job) {
-        return 4;
-    }
-    0
+    let follow = tables_follow(job);
+    let few_steps = listing_steps(job) <= 1000000;
+    super::decide(follow, 3, super::decide(few_steps, 4, 0))
 }
 
 // Table k, counted from 0, as its own part of the file.

@@ -7,16 +7,9 @@ ghost use lib.ListN.{length};
 ghost use lib.Ieee.Scale.{finite};
 ghost use Rattle.job.specs.Job.{sectionsOf};
 ghost use Rattle.job.specs.Format.{pipeCount, pipeIn, pipesIn, reachesOf};
-ghost use Rattle.job.specs.FromTables.{firstsOf};
-ghost use Rattle.job.specs.Questions.{holdsRecords, joins, pipesJoin, sectionsFit, constantFits, constantsFit};
+ghost use Rattle.job.specs.Questions.{holdsRecords, joins, pipesJoin, constantFits, constantsFit};
 ghost use Rattle.job.specs.Questions.{pairQuestions, pipeQuestions, firstNo};
-
-// The first section and the first reach of a pipe, counted through all pipes: what is carried along
-// as the pipes are walked.
-pub struct Firsts {
-    pub section: usize,
-    pub reach: usize,
-}
+use super::walk::Walk;
 
 // The start node of pipe p.
 pub fn start(pipes: &[u8], p: usize) -> usize
@@ -43,51 +36,25 @@ pub fn reaches(pipes: &[u8], p: usize) -> usize
 }
 
 // S of pipe p.
-pub fn constant(pipes: &[u8], p: usize) -> f64
+pub fn s_of(pipes: &[u8], p: usize) -> f64
     requires { ⌜ (p < pipeCount (now pipes)) × (finite (pipeIn (now pipes) p .S) ≡ true) ⌝ }
     ensures { λ r. ⌜ r ≡ pipeIn (now (pipes .entry)) p .S ⌝ }
 {
     fields::f64_at(pipes, p * 12 + 4)
 }
 
-// The firsts of pipe p + 1, from those of pipe p. No pipe has more than 65,536 sections, whatever its bytes.
-fn next_firsts(pipes: &[u8], p: usize, at: Firsts) -> Firsts
-    requires { ⌜ (at ≡ firstsOf (now pipes) p) × (at .section ≤ p * 65536)
-        × (p < pipeCount (now pipes)) × (length (now pipes) ≤ 32768) ⌝ }
-    ensures { λ r. ⌜ (r ≡ firstsOf (now (pipes .entry)) (p + 1)) × (r .section ≤ (p + 1) * 65536) ⌝ }
-{
-    let n = reaches(pipes, p);
-    Firsts {
-        section: at.section + n + 1,
-        reach: at.reach + n,
-    }
-}
-
-// Where the pipes end: the section count, and the number of reaches in all.
-fn ends(pipes: &[u8]) -> Firsts
+// A walk past every pipe: it has come to the section count and to the number of reaches in all.
+pub fn ends(pipes: &[u8]) -> Walk
     requires { ⌜ length (now pipes) ≤ 32768 ⌝ }
-    ensures { λ r. ⌜ (r ≡ firstsOf (now (pipes .entry)) (pipeCount (now (pipes .entry)))) × (r .section < 268435456) ⌝ }
+    ensures { λ r. ⌜ (r .section ≡ sectionsOf (pipesIn (now (pipes .entry))))
+        × (r .reach ≡ reachesOf (pipesIn (now (pipes .entry)))) × (r .reach ≤ r .section) × (r .section < 268435456) ⌝ }
 {
     let count = pipes.len() / 12;
-    let mut at = Firsts {
-        section: 0,
-        reach: 0,
-    };
-    let mut p = 0;
-    while p < count {
-        at = next_firsts(pipes, p, at);
-        p += 1;
+    let mut at = Walk::begun();
+    while at.pipe < count {
+        at = at.past(reaches(pipes, at.pipe));
     }
     at
-}
-
-// The number of reaches in all.
-pub fn reach_count(pipes: &[u8]) -> usize
-    requires { ⌜ length (now pipes) ≤ 32768 ⌝ }
-    ensures { λ r. ⌜ (r ≡ reachesOf (pipesIn (now (pipes .entry)))) × (r < 268435456) ⌝ }
-{
-    let at = ends(pipes);
-    at.reach
 }
 
 // The section count.
@@ -134,21 +101,13 @@ fn pipes_join(pipes: &[u8], count: usize) -> bool
     true
 }
 
-// 8
-fn sections_fit(pipes: &[u8]) -> bool
-    requires { ⌜ length (now pipes) ≤ 32768 ⌝ }
-    ensures { λ r. ⌜ r ≡ sectionsFit (now (pipes .entry)) ⌝ }
-{
-    section_count(pipes) <= 512
-}
-
 // 9, of pipe p: is S finite and above zero?
 fn constant_fits(pipes: &[u8], p: usize) -> bool
     requires { ⌜ p < pipeCount (now pipes) ⌝ }
     ensures { λ r. ⌜ r ≡ constantFits (pipeIn (now (pipes .entry)) p) ⌝ }
 {
     if fields::finite_at(pipes, p * 12 + 4) {
-        0.0 < constant(pipes, p)
+        0.0 < s_of(pipes, p)
     } else {
         false
     }
@@ -174,27 +133,14 @@ pub fn first_no(job: &[u8]) -> usize
     requires { ⌜ firstNo pairQuestions (now job) ≡ 0 ⌝ }
     ensures { λ r. ⌜ r ≡ firstNo pipeQuestions (now (job .entry)) ⌝ }
 {
-    let pipes = super::pairs::table(job, 0);
-    let nodes = super::pairs::table(job, 1);
+    let pipes = super::tables::pipes(job);
+    let nodes = super::tables::nodes(job);
     let pipes_whole = holds_records(pipes, 12, 1, 32);
     let nodes_whole = holds_records(nodes, 26, 2, 32);
     let joined = pipes_join(pipes, nodes.len() / 26);
-    let few_sections = sections_fit(pipes);
+    let few_sections = section_count(pipes) <= 512;
     let constants = constants_fit(pipes);
-    if !pipes_whole {
-        return 5;
-    }
-    if !nodes_whole {
-        return 6;
-    }
-    if !joined {
-        return 7;
-    }
-    if !few_sections {
-        return 8;
-    }
-    if !constants {
-        return 9;
-    }
-    0
+    let from_8 = super::decide(few_sections, 8, super::decide(constants, 9, 0));
+    let from_6 = super::decide(nodes_whole, 6, super::decide(joined, 7, from_8));
+    super::decide(pipes_whole, 5, from_6)
 }

@@ -6,13 +6,13 @@ ghost use lib.ListN.{length};
 ghost use lib.Dec.{eqb};
 ghost use lib.Ieee.Scale.{finite};
 ghost use Rattle.loops.specs.Loops.{allBelow};
-ghost use Rattle.job.specs.Format.{nodeCount, rIn, sectionIn, placeOf, entryIn};
-ghost use Rattle.job.specs.FromTables.{rOf, initialOf};
-ghost use Rattle.job.specs.Questions.{notBelowZero, frictionFits, frictionRight, finiteSection};
+ghost use Rattle.job.specs.Format.{nodeCount, placeOf, entryIn};
+ghost use Rattle.job.specs.TableEntries.{rOf, initialOf};
+ghost use Rattle.job.specs.Questions.{frictionFits, frictionRight};
 ghost use Rattle.job.specs.Questions.{initialFits, initialRight, entryFits, schedulesFit, schedulesRight};
 ghost use Rattle.job.specs.Questions.{pairQuestions, valueQuestions, firstNo};
-ghost use Rattle.job.specs.Asked.{numbersFinite, eachFinite, noneBelowZero};
-ghost use Rattle.job.specs.Asked.{sectionsFinite, notBelowFloor, noneBelowFloor};
+ghost use Rattle.job.specs.QuestionParts.{numbersFinite, eachFinite, noneBelowZero};
+ghost use Rattle.job.specs.QuestionParts.{sectionsFinite, noneBelowFloor};
 
 // R of reach r.
 pub fn r_at(friction: &[u8], r: usize) -> f64
@@ -52,13 +52,11 @@ fn not_finite(bytes: &[u8], n: usize) -> u64
     bad
 }
 
-// 1 where R of reach r, which is finite, is below zero, else 0, without a branch.
-fn below_zero_at(friction: &[u8], r: usize) -> u64
-    requires { ⌜ (r < length (now friction) / 8) × (finite (rIn (now friction) r) ≡ true) ⌝ }
-    ensures { λ x. ⌜ (x ≤ 1) × (x ≡ cond (notBelowZero (rIn (now (friction .entry)) r)) 0 1) ⌝ }
+// 0 where a test holds, else 1, without a branch.
+fn one_unless(holds: bool) -> u64
+    ensures { λ x. ⌜ (x ≤ 1) × (x ≡ cond holds 0 1) ⌝ }
 {
-    let low = fields::f64_at(friction, r * 8) < 0.0;
-    if low { 1 } else { 0 }
+    if holds { 0 } else { 1 }
 }
 
 // How many R are below zero, where each is finite.
@@ -70,7 +68,8 @@ fn below_zero(friction: &[u8]) -> u64
     let mut low: u64 = 0;
     let mut r = 0;
     while r < n {
-        low = low + below_zero_at(friction, r);
+        let fits = !(fields::f64_at(friction, r * 8) < 0.0);
+        low = low + one_unless(fits);
         r += 1;
     }
     low
@@ -91,17 +90,8 @@ fn friction_right(pipes: &[u8], friction: &[u8]) -> bool
     requires { ⌜ length (now pipes) ≤ 32768 ⌝ }
     ensures { λ r. ⌜ r ≡ frictionRight (now (pipes .entry)) (now (friction .entry)) ⌝ }
 {
-    (friction.len() == super::pipes::reach_count(pipes) * 8) & friction_fits(friction)
-}
-
-// 1 where the head of section s is below its floor, else 0.
-fn below_floor_at(initial: &[u8], s: usize) -> u64
-    requires { ⌜ (s < length (now initial) / 24) × (finiteSection (sectionIn (now initial) s) ≡ true) ⌝ }
-    ensures { λ x. ⌜ (x ≤ 1) × (x ≡ cond (notBelowFloor (sectionIn (now (initial .entry)) s)) 0 1) ⌝ }
-{
-    let at = s * 24;
-    let low = fields::f64_at(initial, at) < fields::f64_at(initial, at + 16);
-    if low { 1 } else { 0 }
+    let all = super::pipes::ends(pipes);
+    (friction.len() == all.reach * 8) & friction_fits(friction)
 }
 
 // How many heads are below their floors, where all are finite.
@@ -113,7 +103,9 @@ fn below_floor(initial: &[u8]) -> u64
     let mut low: u64 = 0;
     let mut s = 0;
     while s < n {
-        low = low + below_floor_at(initial, s);
+        let at = s * 24;
+        let fits = !(fields::f64_at(initial, at) < fields::f64_at(initial, at + 16));
+        low = low + one_unless(fits);
         s += 1;
     }
     low
@@ -174,14 +166,14 @@ fn schedules_fit(nodes: &[u8], schedules: &[u8]) -> bool
 {
     let n = nodes.len() / 26;
     let mut place = 0;
-    let mut y = 0;
-    while y < n {
-        let count = super::nodes::schedule_count(nodes, y);
-        if !schedule_fits(schedules, super::nodes::kind(nodes, y), place, count) {
+    let mut node = 0;
+    while node < n {
+        let count = super::nodes::schedule_count(nodes, node);
+        if !schedule_fits(schedules, super::nodes::kind(nodes, node), place, count) {
             return false;
         }
-        place = super::nodes::next_place(nodes, y, place);
-        y += 1;
+        place = super::nodes::next_place(nodes, node, place);
+        node += 1;
     }
     true
 }
@@ -193,10 +185,10 @@ fn entry_count(nodes: &[u8]) -> usize
 {
     let n = nodes.len() / 26;
     let mut place = 0;
-    let mut y = 0;
-    while y < n {
-        place = super::nodes::next_place(nodes, y, place);
-        y += 1;
+    let mut node = 0;
+    while node < n {
+        place = super::nodes::next_place(nodes, node, place);
+        node += 1;
     }
     place
 }
@@ -217,16 +209,16 @@ pub fn first_no(job: &[u8]) -> usize
     requires { ⌜ firstNo pairQuestions (now job) ≡ 0 ⌝ }
     ensures { λ r. ⌜ r ≡ firstNo valueQuestions (now (job .entry)) ⌝ }
 {
-    let pipes = super::pairs::table(job, 0);
-    let nodes = super::pairs::table(job, 1);
-    if !friction_right(pipes, super::pairs::table(job, 2)) {
+    let pipes = super::tables::pipes(job);
+    let nodes = super::tables::nodes(job);
+    let friction = super::tables::friction(job);
+    let initial = super::tables::initial(job);
+    let schedules = super::tables::schedules(job);
+    if !friction_right(pipes, friction) {
         return 13;
     }
-    if !initial_right(pipes, super::pairs::table(job, 3)) {
+    if !initial_right(pipes, initial) {
         return 14;
     }
-    if !schedules_right(nodes, super::pairs::table(job, 4)) {
-        return 15;
-    }
-    0
+    super::decide(schedules_right(nodes, schedules), 15, 0)
 }

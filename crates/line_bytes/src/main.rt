@@ -64,10 +64,9 @@ fn show_case(cases: &[u8], at: usize)
 fn main() {
     let mut buffer = io::buffer();
     let count = io::read_full(0, &mut buffer);
-    let n = count / 42;
-    let mut k: usize = 0;
-    while k < n {
-        show_case(&buffer, k * 42);
-        k += 1;
+    let mut at = 0;
+    while at + 42 <= count {
+        show_case(&buffer, at);
+        at += 42;
     }
 }

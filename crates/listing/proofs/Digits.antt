@@ -9,7 +9,7 @@ use borrow.Author.Tests.{lt-ltb, le-ltb}
 use lib.ListN.{length, set, length-append}
 use lib.Seq.{sets}
 use Rattle.listing.specs.Text.{digit, digits, placesWithin, places}
-use Rattle.listing.proofs.Stores.{last-first}
+use Rattle.listing.proofs.StoredTexts.{last-first}
 
 pub length-digits : (n base count : ℕ) → length (digits n base count) ≡ count
 unfolding digits
@@ -60,6 +60,3 @@ places-bound (suc p) n h =
       | yes s ↦ rw (places-few n s) (omega arith)
       | no b ↦ rw (places-more n (omega arith)) (suc-le-suc (places-bound p (n / 10) (div-lt-iff-lt-mul (omega arith) .1 (rw pow-suc at h))))
     ]
-
-pub places-word : (n : ℕ) → n < 2 ^ 64 → places n ≤ 20
-places-word n h = places-bound 19 n (omega arith)

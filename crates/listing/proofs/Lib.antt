@@ -1,3 +1,3 @@
-pub mod Stores
+pub mod StoredTexts
 pub mod Digits
 pub mod Figures

@@ -1,4 +1,4 @@
 pub mod Text
 pub mod Listing
-pub mod Written
+pub mod InnerContracts
 pub mod Figures

@@ -8,11 +8,11 @@ use text::put_pattern;
 use text::put_text;
 ghost use mathlib.Core.Path.{_≡_};
 ghost use mathlib.Core.List.{_∷_, [], _++_};
-ghost use Prim.Native.Nat.{_+_, _*_, _≤_, _<_};
+ghost use Prim.Native.Nat.{_+_, _≤_, _<_};
 ghost use lib.ListN.{length};
 ghost use Rattle.listing.specs.Text.{decimal, pattern, following, printed};
 ghost use Rattle.listing.specs.Listing.{lineText, closingText, linesText, lineWritten, AtFront};
-ghost use Rattle.listing.specs.Written.{Written, Listable, rowLine};
+ghost use Rattle.listing.specs.InnerContracts.{Written, Listable, rowLine};
 
 // The bytes that question 24 asks for: a line has at most 3 digits, four fields of 17 and the newline.
 const LINE: usize = 72;
@@ -135,30 +135,6 @@ fn put_closing(number: usize, steps: usize, section: usize, at: usize, out: &mut
     put_word_number(b"refused", number, at, out)
 }
 
-// The lines of the sections 0 to count - 1, by the four rows.
-fn put_lines(
-    count: usize,
-    heads: &[f64],
-    flows: &[f64],
-    highest: &[f64],
-    lowest: &[f64],
-    out: &mut [u8],
-) -> usize
-    requires { ⌜ Listable count (now heads) (now flows) (now highest) (now lowest) (now out) ⌝ }
-    ensures { λ r. ⌜ (let line = rowLine (now (heads .entry)) (now (flows .entry))
-        (now (highest .entry)) (now (lowest .entry)) in
-        Written (now (out .entry)) 0 (linesText line count) (now (out .exit)) r) ⌝ }
-    ensures { λ r. ⌜ r ≤ count * 72 ⌝ }
-{
-    let mut at = 0;
-    let mut s = 0;
-    while s < count {
-        at = put_line(s, heads[s], flows[s], highest[s], lowest[s], at, out);
-        s += 1;
-    }
-    at
-}
-
 // Writes the lines of the sections 0 to count - 1 and a closing line at the front of `out`, and
 // answers how many bytes they take. An inner call: the program lends rows and room enough.
 pub fn write_listing(
@@ -178,6 +154,11 @@ pub fn write_listing(
         AtFront (linesText line count ++ closingText number steps section)
         (now (out .entry)) r (now (out .exit))) ⌝ }
 {
-    let at = put_lines(count, heads, flows, highest, lowest, out);
+    let mut at = 0;
+    let mut s = 0;
+    while s < count {
+        at = put_line(s, heads[s], flows[s], highest[s], lowest[s], at, out);
+        s += 1;
+    }
     put_closing(number, steps, section, at, out)
 }

@@ -6,7 +6,7 @@ ghost use Prim.Native.Nat.{_+_, _≤_, _<_};
 ghost use lib.ListN.{length};
 ghost use lib.Ieee.{binary64, toBits};
 ghost use Rattle.listing.specs.Text.{ascii, digit, digits, places, decimal, pattern};
-ghost use Rattle.listing.specs.Written.{Written};
+ghost use Rattle.listing.specs.InnerContracts.{Written};
 
 // The byte of a digit below 16.
 fn digit_code(d: usize) -> u8

@@ -2,15 +2,15 @@
 -- In a loop:  all-none, all-more   what has passed so far;  all-stop   the answer where one fails
 -- Of the answer:  all-at, all-of;  all-both   of two tests;  all-cong   of tests that agree;  all-join   of two ranges, one after the other
 -- Assumes nothing.
-use mathlib.Core.Path.{_≡_, refl, sym, ap₂, _∙_}
+use mathlib.Core.Path.{_≡_, refl, sym, ap₂}
 use mathlib.Core.Logic.{⊎-elim}
-use mathlib.Core.Bool.{Bool, true, false, _&&_, and-true, and-assoc}
+use mathlib.Core.Bool.{Bool, true, false, not, _&&_, and-true, and-assoc}
 use Prim.Native.Nat.{ℕ, zero, suc, _+_, _<_, _≤_}
 use native.Mathlib.Nat.{add-zero, add-suc, le-of-suc-le-suc, not-suc-le-zero, eq-or-lt-of-le}
 use native.Mathlib.Numerals.{add-one}
 use native.Mathlib.Omega.{arith}
 use Rattle.loops.specs.Loops.{allBelow}
-use Rattle.loops.proofs.Tests.{and-false, both}
+use Rattle.loops.proofs.Tests.{and-false, both, is-yes, is-no}
 
 and-swap : (a b c d : Bool) → (a && b) && (c && d) ≡ (a && c) && (b && d)
 and-swap true true c d = refl
@@ -59,7 +59,7 @@ module _ (p : ℕ → Bool) where
   all-of zero h = refl
   all-of (suc n) h = rw (all-of n (λ i l. h i (omega arith)), h n (omega arith))
 
-  -- The invariant of such a loop, whose test gives v in a turn
+  -- The invariant of such a loop, which branches on `!v` for the v that its test gives
   pub record Passing (n i : ℕ) : Type 0 where
     pub within : i ≤ n
     pub passed : allBelow p i ≡ true
@@ -68,11 +68,11 @@ module _ (p : ℕ → Bool) where
     pub passing-none : Passing n 0
     passing-none = record { within = omega arith; passed = all-none }
 
-    pub passing-step : {i : ℕ} {v : Bool} → Passing n i → i < n → v ≡ p i → v ≡ true → Passing n (i + 1)
-    passing-step u l e h = record { within = omega arith; passed = all-more (u .passed) (sym e ∙ h) }
+    pub passing-step : {i : ℕ} {v : Bool} → Passing n i → i < n → v ≡ p i → not v ≡ false → Passing n (i + 1)
+    passing-step u l e h = record { within = omega arith; passed = all-more (u .passed) (is-yes e h) }
 
-    pub passing-stop : {i : ℕ} {v : Bool} → i < n → v ≡ p i → v ≡ false → false ≡ allBelow p n
-    passing-stop {i} l e h = sym (all-stop i n l (sym e ∙ h))
+    pub passing-stop : {i : ℕ} {v : Bool} → i < n → v ≡ p i → not v ≡ true → false ≡ allBelow p n
+    passing-stop {i} l e h = sym (all-stop i n l (is-no e h))
 
     pub passing-done : {i : ℕ} → Passing n i → n ≤ i → true ≡ allBelow p n
     passing-done {i} u l = let e : n ≡ i = omega arith in rw e (sym (u .passed))

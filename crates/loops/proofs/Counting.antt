@@ -1,11 +1,11 @@
 -- A loop that adds 1 for each of 0, 1, .. that fails a test, and 0 for the others: the count is 0 exactly where the test holds of all. Assumes nothing.
 use mathlib.Core.Path.{_≡_, refl, sym, ap, _∙_}
-use mathlib.Core.Bool.{Bool, true, false, not, _&&_, cond, and-true}
+use mathlib.Core.Bool.{Bool, true, false, _&&_, cond, and-true}
 use Prim.Native.Nat.{ℕ, zero, suc, _+_, _<_, _≤_}
 use native.Mathlib.Nat.{add-zero, zero-add}
 use native.Mathlib.Numerals.{add-one}
 use native.Mathlib.Omega.{arith}
-use borrow.Author.Tests.{ne-eqb}
+use borrow.Author.Tests.{eq-eqb, ne-eqb}
 use lib.Dec.{eqb}
 use Rattle.loops.specs.Loops.{allBelow}
 use Rattle.loops.proofs.Tests.{and-false}
@@ -19,11 +19,6 @@ pub record Counting (p : ℕ → Bool) (n i count : ℕ) : Type 0 where
 told-more : (a b : Bool) (count : ℕ) → eqb count 0 ≡ a → eqb (count + cond b 0 1) 0 ≡ a && b
 told-more a true count e = rw (add-zero count) (e ∙ sym (and-true a))
 told-more a false count e = ne-eqb (count + 1) 0 (λ z. omega arith) ∙ sym (and-false a)
-
--- what is added where the failure itself is tested
-pub one-where : (failed : Bool) → _≡_ {A = ℕ} (cond failed 1 0) (cond (not failed) 0 1)
-one-where true = refl
-one-where false = refl
 
 at-most-one : (b : Bool) → cond b 0 1 ≤ 1
 at-most-one true = omega arith
@@ -41,6 +36,13 @@ module _ (p : ℕ → Bool) {n : ℕ} where
 
   pub counting-done : {i count : ℕ} → Counting p n i count → n ≤ i → eqb count 0 ≡ allBelow p n
   counting-done {i} u l = let e : n ≡ i = omega arith in rw e (u .told)
+
+-- what a branch on a count tells of the test
+pub none-counted : {count : ℕ} {t : Bool} → eqb count 0 ≡ t → count ≡ 0 → t ≡ true
+none-counted e z = sym e ∙ eq-eqb _ 0 z
+
+pub some-counted : {count : ℕ} {t : Bool} → eqb count 0 ≡ t → (count ≡ 0 → ⊥) → t ≡ false
+some-counted e h = sym e ∙ ne-eqb _ 0 h
 
 -- a sum of counts is 0 where each is; one that is added tells its test
 pub zero-sum : (x y : ℕ) → eqb (x + y) 0 ≡ eqb x 0 && eqb y 0

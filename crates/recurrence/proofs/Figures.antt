@@ -5,7 +5,7 @@ use Rattle.wave.proofs.Figures.{bench-figures}
 use Rattle.recurrence.specs.Figures.{BenchTable}
 use Rattle.recurrence.specs.OwnFigures.{RowFigures, RefusalFigures, StepFigures}
 use Rattle.recurrence.proofs.EachRow.{each}
-use Rattle.recurrence.proofs.Opened.{opened}
+use Rattle.recurrence.proofs.AllDefinitions.{opened}
 
 pub bench-table : BenchTable
 unfolding opened

@@ -12,13 +12,13 @@ use Rattle.loops.proofs.Tests.{both, cond-all}
 use Rattle.loops.proofs.All.{all-at, all-of}
 use Rattle.loops.proofs.First.{first-each}
 use Rattle.loops.proofs.Listed.{getD-listed}
-use Rattle.job.specs.Job.{Job, laid, sections, initialAt, floorAt}
+use Rattle.job.specs.Job.{Job, laid, sections, initialAt, floorAt, scheduled}
 use Rattle.job.specs.Format.{jobOf}
 use Rattle.job.specs.Questions.{Accepted}
 use Rattle.job.proofs.AcceptedValues.{section-finite, head-above-floor}
 use Rattle.wave.specs.declared.HeadFlow.{HeadFlow}
 use Rattle.recurrence.specs.State.{Point, State, noPoint, pointAt, startPoint, startState}
-use Rattle.recurrence.specs.Step.{inputs, located, newAt, raised, lowered, updated, newPoint, advanced}
+use Rattle.recurrence.specs.Step.{alongPipes, nodesWith, located, newAt, raised, lowered, updated, newPoint, advanced}
 use Rattle.recurrence.specs.Scan.{Fault, none, fault, notFinite, parted, faultOf, earlier, scan, finished, outcomeOf, step, acceptableAt, acceptable}
 use Rattle.recurrence.specs.Run.{played}
 use Rattle.recurrence.specs.Calls.{Row, heads, flows, highest, lowest, spare, Rows, inUse, pointIn}
@@ -28,7 +28,7 @@ use Rattle.recurrence.proofs.Runs.{Reached, finished-advanced, played-s
 use Rattle.recurrence.proofs.RowLaws.{holds-state}
 use Rattle.recurrence.proofs.RunLaws.{acceptable-rows}
 use Rattle.recurrence.proofs.StepLaws.{advanced-at}
-use Rattle.recurrence.proofs.Tied.{begun, calls-follow}
+use Rattle.recurrence.proofs.TiedCalls.{begun, calls-follow}
 
 -- ---- one point
 
@@ -126,7 +126,7 @@ step-fit j n old new f e s l =
     let st = advanced j n old in
     let q = advanced-at j n old s l in
     let clear = first-each earlier none no-earlier (sections j) (λ t. faultOf (floorAt j t) t (pointAt st t)) (finished-clear j n old new e) s l in
-    rw (← (finished-advanced j n old new e), q) (updated-fit (floorAt j s) s (newAt (laid j) (inputs j n) old (located (laid j) s)) (pointAt old s) (f s l) (rw q at clear))
+    rw (← (finished-advanced j n old new e), q) (updated-fit (floorAt j s) s (newAt (laid j) (alongPipes j old) (nodesWith j (scheduled j n)) (located (laid j) s)) (pointAt old s) (f s l) (rw q at clear))
 
 reached-fit : (job : List ℕ) → Accepted job → (m : ℕ) (st : State) → Reached (jobOf job) m st → FitState (jobOf job) st
 reached-fit job ok zero st r = rw r (start-fit job ok)

@@ -11,7 +11,7 @@ use Rattle.recurrence.specs.Lent.{LentCall, heldBy, callOf, Demand3InRow
 use Rattle.recurrence.proofs.Runs.{played-counts}
 use Rattle.recurrence.proofs.Theorem.{demand-3}
 use Rattle.recurrence.proofs.RowLaws.{holds-point}
-use Rattle.recurrence.proofs.Tied.{Follows, begun, calls-follow}
+use Rattle.recurrence.proofs.TiedCalls.{Follows, begun, calls-follow}
 
 -- an entry of what is held is the point of the run
 entry : (job : List ℕ) (lent : Rows) (cs : List LentCall) (ds : List Call) → Follows job (heldBy job lent cs) (played (jobOf job) ds)

@@ -1,13 +1,13 @@
-pub mod Opened
+pub mod AllDefinitions
 pub mod EachRow
 pub mod Figures
-pub mod Laying
+pub mod LaidPipes
 pub mod LocalStep
 pub mod Runs
 pub mod RunsAgree
 pub mod Stops
 pub mod Theorem
-pub mod Tied
+pub mod TiedCalls
 pub mod InRows
 pub mod GoesOn
 pub mod Sharp

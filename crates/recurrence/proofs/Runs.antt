@@ -40,7 +40,7 @@ Stands j r = Reached j (r .done) (r .state)
 -- ---- the steps of a call
 
 -- what steps come to: they ran, from one reached state to another, and left as many more steps done as finished; and a point for each section
-pub record Ran (j : Job) (N m : ℕ) (st : State) : Type 0 where
+pub record RanSteps (j : Job) (N m : ℕ) (st : State) : Type 0 where
   pub run : Run
   pub ending : Ending
   pub is : steps j N m st ≡ ran run ending
@@ -48,12 +48,12 @@ pub record Ran (j : Job) (N m : ℕ) (st : State) : Type 0 where
   pub stands : Reached j m st → Stands j run
   pub sized : Sized j st → Sized j (run .state)
 
-pub steps-ran : (j : Job) (N m : ℕ) (st : State) → Ran j N m st
+pub steps-ran : (j : Job) (N m : ℕ) (st : State) → RanSteps j N m st
 unfolding steps onward finishedOf oneMore
 steps-ran j zero m st = record { run = record { done = m; state = st }; ending = completed; is = refl; done = omega arith; stands = λ h. h; sized = λ h. h }
 steps-ran j (suc N) m st = go (step j (suc m) st) refl (λ new. steps-ran j N (suc m) new)
   where
-    go : (o : Outcome) → step j (suc m) st ≡ o → ((new : State) → Ran j N (suc m) new) → Ran j (suc N) m st
+    go : (o : Outcome) → step j (suc m) st ≡ o → ((new : State) → RanSteps j N (suc m) new) → RanSteps j (suc N) m st
     go (finished new) e h =
         let x = h new in
         let d = x .done in

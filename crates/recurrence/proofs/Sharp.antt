@@ -15,7 +15,7 @@ use Rattle.recurrence.specs.Paths.{EndAt, startsAt, finishesAt, Beside, 
 use Rattle.recurrence.specs.Demand.{AlikeBut}
 use Rattle.recurrence.specs.Figures.{jobQAt12}
 use Rattle.recurrence.specs.Sharp.{once, Sharp}
-use Rattle.recurrence.proofs.Opened.{opened}
+use Rattle.recurrence.proofs.AllDefinitions.{opened}
 
 -- a lower bound of distances, by a number at each section that neighbours change by one at most and ends at one node share
 pub by-levels : (ls : List Laid) (from : ℕ → Type 0) (φ : ℕ → ℕ) → ((s : ℕ) → from s → φ s ≡ 0) → ((r s t : ℕ) → Beside ls r s t → φ t ≤ suc (φ s))
@@ -31,7 +31,7 @@ read f none = 0
 read f (some l) = f l
 
 pub record OnePipe (l : Laid) : Type 0 where
-  pub first : l .first ≡ 0
+  pub first : l .firstSection ≡ 0
   pub reaches : l .pipe .reaches ≡ 2
   pub start : l .pipe .start ≡ 0
   pub finish : l .pipe .finish ≡ 1
@@ -39,7 +39,7 @@ pub record OnePipe (l : Laid) : Type 0 where
 only : (p : ℕ) (l : Laid) → getElem? (laid (jobOf jobQ)) p ≡ some l → OnePipe l
 unfolding opened read
 only zero l e = record {
-  first = sym (ap (read (λ k. k .first)) e);
+  first = sym (ap (read (λ k. k .firstSection)) e);
   reaches = sym (ap (read (λ k. k .pipe .reaches)) e);
   start = sym (ap (read (λ k. k .pipe .start)) e);
   finish = sym (ap (read (λ k. k .pipe .finish)) e);

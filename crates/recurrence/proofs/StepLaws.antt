@@ -9,17 +9,17 @@ use lib.ListN.{getElem?, take}
 use lib.Ieee.{Float}
 use Rattle.fields.specs.Real.{_⊞_}
 use Rattle.wave.specs.Wave.{sumFrom}
-use Rattle.job.specs.Job.{Job, Laid, laid, sections}
+use Rattle.job.specs.Job.{Job, Laid, laid, sections, scheduled}
 use Rattle.recurrence.specs.State.{State, noPoint, pointAt}
-use Rattle.recurrence.specs.Step.{inputs, endsOf, newPoint, advanced}
+use Rattle.recurrence.specs.Step.{alongPipes, nodesWith, endsOf, newPoint, advanced}
 use Rattle.loops.proofs.Listed.{getD-listed}
 
 -- ---- the new points
 
 module _ (j : Job) (n : ℕ) (st : State) where
-  pub advanced-at : (s : ℕ) → s < sections j → pointAt (advanced j n st) s ≡ newPoint (laid j) (inputs j n) st s
+  pub advanced-at : (s : ℕ) → s < sections j → pointAt (advanced j n st) s ≡ newPoint (laid j) (alongPipes j st) (nodesWith j (scheduled j n)) st s
   unfolding advanced pointAt
-  advanced-at s h = getD-listed (sections j) (newPoint (laid j) (inputs j n) st) s noPoint h
+  advanced-at s h = getD-listed (sections j) (newPoint (laid j) (alongPipes j st) (nodesWith j (scheduled j n)) st) s noPoint h
 
 -- ---- a node's sums
 

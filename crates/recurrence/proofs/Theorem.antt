@@ -10,12 +10,12 @@ use Rattle.job.specs.Job.{Job, Pipe, Laid, Initial, laid, sections, sectionsOf,
 use Rattle.job.specs.Format.{jobOf}
 use Rattle.loops.specs.Loops.{listed}
 use Rattle.recurrence.specs.State.{State, pointAt, startPoint, startState}
-use Rattle.recurrence.specs.Step.{nodeNow}
+use Rattle.recurrence.specs.Step.{nodesWith}
 use Rattle.recurrence.specs.Scan.{scan, step, acceptable}
 use Rattle.recurrence.specs.Run.{Call, started, played, answers, stepsDone}
 use Rattle.recurrence.specs.Paths.{EndAt, Beside, down, up, PathTo, begins, along, across, AtLeast, NoPath}
 use Rattle.recurrence.specs.Demand.{seenBy, AlikeBut, AlikeBefore, Carried, Demand3}
-use Rattle.recurrence.proofs.Laying.{laid-whole}
+use Rattle.recurrence.proofs.LaidPipes.{laid-spanned}
 use Rattle.job.proofs.Accepted.{accepted-reaches}
 use Rattle.recurrence.proofs.Runs.{played-stands, played-counts}
 use Rattle.recurrence.proofs.RunsAgree.{Spreads, Closed, advanced-same, agree}
@@ -66,21 +66,20 @@ module _ (A B : Job) (x k : ℕ) (al : AlikeBut x A B) (be : AlikeBefore k x A B
   unfolding frictionAt
   friction-alike r = rw (al .friction)
 
-  node-alike : (m y s : ℕ) → far (suc m) s → EndAt (laid A) y s → nodeNow A (suc m) y ≡ nodeNow B (suc m) y
-  unfolding Cone nodeNow scheduled
+  node-alike : (m y s : ℕ) → far (suc m) s → EndAt (laid A) y s → nodesWith A (scheduled A (suc m)) y ≡ nodesWith B (scheduled B (suc m)) y
+  unfolding Cone nodesWith scheduled
   node-alike m y s h a = go (ℕ-discrete y x)
     where
-      go : Dec (y ≡ x) → nodeNow A (suc m) y ≡ nodeNow B (suc m) y
+      go : Dec (y ≡ x) → nodesWith A (scheduled A (suc m)) y ≡ nodesWith B (scheduled B (suc m)) y
       go (yes q) =
           let z = h 0 (begins (rw q at a)) in
           rw q (ap₂ withValue (al .kind) (be .values (suc m) (omega arith) (omega arith)))
       go (no q) = rw (al .others y q)
 
   closed : Reaches A → Closed A B far
-  unfolding laid
   closed ok = record {
     pipes = al .pipes;
-    whole = laid-whole 0 0 (A .pipes) ok;
+    whole = λ p l e. ok p (l .pipe) (laid-spanned A p l e .pipe-is);
     spreads = cone-spreads (laid A) (EndAt (laid A) x) k;
     first = λ s _. ap startPoint (initial-alike s);
     reach = λ m r s t _ _. friction-alike r;

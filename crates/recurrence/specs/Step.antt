@@ -14,59 +14,60 @@ use Rattle.job.specs.Job.{Job, Laid, laid, sections, frictionAt, nodeAt, schedu
 use Rattle.loops.specs.Loops.{listed}
 use Rattle.recurrence.specs.State.{Point, State, pointAt}
 
--- ---- what a step reads, beside the layout and the old state
+-- ---- what a step reads, beside the layout
 
--- R of each reach, and each node with its value at the step
-pub record Inputs : Type 0 where
+-- What is read along the pipes: R of each reach, and the old head and flow of each section.
+pub record AlongPipes : Type 0 where
   pub friction : ℕ → Float
-  pub node : ℕ → Node
+  pub old : ℕ → HeadFlow
 
--- Node y at step n: "v is its scheduled value at the step."
-unfoldable pub nodeNow : Job → ℕ → ℕ → Node
-nodeNow j n y = withValue (nodeAt j y .kind) (scheduled j n y)
+-- of the old state, heads and flows alone
+unfoldable pub alongPipes : Job → State → AlongPipes
+alongPipes j st = record { friction = frictionAt j; old = λ s. record { head = pointAt st s .head; flow = pointAt st s .flow } }
 
-unfoldable pub inputs : Job → ℕ → Inputs
-inputs j n = record { friction = frictionAt j; node = nodeNow j n }
+-- Each node with its value v at the step; the values are handed in.
+unfoldable pub nodesWith : Job → (ℕ → Float) → ℕ → Node
+nodesWith j v node = withValue (nodeAt j node .kind) (v node)
 
 -- ---- along a reach: reach i of a pipe joins its sections i and i + 1
 
 -- An equation of S, R, H and Q, along reach i of a laid pipe and from its section s: "Q and H are the neighbour's old values, R belongs to the
 -- reach between."
-unfoldable pub along : (Float → Float → Float → Float → Float) → Inputs → State → Laid → ℕ → ℕ → Float
-along equation f st l i s =
-    let old = pointAt st (l .first + s) in
-    equation (l .pipe .S) (f .friction (l .reach + i)) (old .head) (old .flow)
+unfoldable pub along : (Float → Float → Float → Float → Float) → AlongPipes → Laid → ℕ → ℕ → Float
+along equation w l i s =
+    let neighbour = w .old (l .firstSection + s) in
+    equation (l .pipe .S) (w .friction (l .firstReach + i)) (neighbour .head) (neighbour .flow)
 
 -- CP of section i + 1, and CM of section i
-unfoldable pub cpAfter : Inputs → State → Laid → ℕ → Float
-cpAfter f st l i = along fromAbove f st l i i
+unfoldable pub cpAfter : AlongPipes → Laid → ℕ → Float
+cpAfter w l i = along fromAbove w l i i
 
-unfoldable pub cmBefore : Inputs → State → Laid → ℕ → Float
-cmBefore f st l i = along fromBelow f st l i (suc i)
+unfoldable pub cmBefore : AlongPipes → Laid → ℕ → Float
+cmBefore w l i = along fromBelow w l i (suc i)
 
 -- K at a pipe's finish and at its start: "section 0, which has CM", "section n after n reaches, which has CP"
-unfoldable pub kAtFinish : Inputs → State → Laid → Float
-kAtFinish f st l = along finishK f st l (pred (l .pipe .reaches)) (pred (l .pipe .reaches))
+unfoldable pub kAtFinish : AlongPipes → Laid → Float
+kAtFinish w l = along finishK w l (pred (l .pipe .reaches)) (pred (l .pipe .reaches))
 
-unfoldable pub kAtStart : Inputs → State → Laid → Float
-kAtStart f st l = along startK f st l 0 1
+unfoldable pub kAtStart : AlongPipes → Laid → Float
+kAtStart w l = along startK w l 0 1
 
 -- ---- the nodes
 
--- What the pipe ends at node y give, in rising pipe number. A pipe's two nodes differ, so it has one end there at most.
+-- What the pipe ends at a node give, in rising pipe number. A pipe's two nodes differ, so it has one end there at most.
 unfoldable pub endsOf : {A : Type 0} → (Laid → A) → (Laid → A) → ℕ → List Laid → List A
-endsOf ofStart ofFinish y [] = []
-endsOf ofStart ofFinish y (l ∷ ls) =
-    let rest = endsOf ofStart ofFinish y ls in
-    cond (eqb (l .pipe .start) y) (ofStart l ∷ rest) (cond (eqb (l .pipe .finish) y) (ofFinish l ∷ rest) rest)
+endsOf ofStart ofFinish node [] = []
+endsOf ofStart ofFinish node (l ∷ ls) =
+    let rest = endsOf ofStart ofFinish node ls in
+    cond (eqb (l .pipe .start) node) (ofStart l ∷ rest) (cond (eqb (l .pipe .finish) node) (ofFinish l ∷ rest) rest)
 
 -- "For a node, B is the sum of K and T the sum of S over its pipe ends, added to +0 in rising pipe number."
-unfoldable pub sumsAt : List Laid → Inputs → State → ℕ → Sums
-sumsAt ls f st y = sumsOf (endsOf (kAtStart f st) (kAtFinish f st) y ls) (endsOf (λ l. l .pipe .S) (λ l. l .pipe .S) y ls)
+unfoldable pub sumsAt : List Laid → AlongPipes → ℕ → Sums
+sumsAt ls w node = sumsOf (endsOf (kAtStart w) (kAtFinish w) node ls) (endsOf (λ l. l .pipe .S) (λ l. l .pipe .S) node ls)
 
--- H of node y
-unfoldable pub headAt : List Laid → Inputs → State → ℕ → Float
-headAt ls f st y = nodeHead (f .node y) (sumsAt ls f st y)
+-- H of a node
+unfoldable pub headAt : List Laid → AlongPipes → (ℕ → Node) → ℕ → Float
+headAt ls w nodes node = nodeHead (nodes node) (sumsAt ls w node)
 
 -- ---- the sections
 
@@ -79,26 +80,31 @@ unfoldable pub located : List Laid → ℕ → Place
 located [] s = nowhere
 located (l ∷ ls) s =
     let later = located ls s in
-    cond (leb (l .first) s && leb s (l .first + l .pipe .reaches)) (place l (s - l .first)) later
+    cond (leb (l .firstSection) s && leb s (l .firstSection + l .pipe .reaches)) (place l (s - l .firstSection)) later
 
-unfoldable pub atFinish : List Laid → Inputs → State → Laid → HeadFlow
-atFinish ls f st l = finishEnd (l .pipe .S) (kAtFinish f st l) (headAt ls f st (l .pipe .finish))
+-- head and flow at each end of a pipe, from the end's own K and the head there
+unfoldable pub atFinish : List Laid → AlongPipes → (ℕ → Node) → Laid → HeadFlow
+atFinish ls w nodes l = finishEnd (l .pipe .S) (kAtFinish w l) (headAt ls w nodes (l .pipe .finish))
 
-unfoldable pub atStart : List Laid → Inputs → State → Laid → HeadFlow
-atStart ls f st l = startEnd (l .pipe .S) (kAtStart f st l) (headAt ls f st (l .pipe .start))
+unfoldable pub atStart : List Laid → AlongPipes → (ℕ → Node) → Laid → HeadFlow
+atStart ls w nodes l = startEnd (l .pipe .S) (kAtStart w l) (headAt ls w nodes (l .pipe .start))
 
 -- section i + 1 of a pipe, between its ends
-unfoldable pub between : Inputs → State → Laid → ℕ → HeadFlow
-between f st l i = inner (l .pipe .S) (cpAfter f st l i) (cmBefore f st l (suc i))
+unfoldable pub between : AlongPipes → Laid → ℕ → HeadFlow
+between w l i = inner (l .pipe .S) (cpAfter w l i) (cmBefore w l (suc i))
+
+-- at offset i of a pipe of so many reaches: its start, its finish, or one between them
+unfoldable pub endToEnd : ℕ → HeadFlow → HeadFlow → (ℕ → HeadFlow) → ℕ → HeadFlow
+endToEnd reaches start finish inside zero = start
+endToEnd reaches start finish inside (suc i) = cond (eqb (suc i) reaches) finish (inside i)
 
 -- the new head and flow at offset i of a laid pipe, and at a section
-unfoldable pub newIn : List Laid → Inputs → State → Laid → ℕ → HeadFlow
-newIn ls f st l zero = atStart ls f st l
-newIn ls f st l (suc i) = cond (eqb (suc i) (l .pipe .reaches)) (atFinish ls f st l) (between f st l i)
+unfoldable pub newIn : List Laid → AlongPipes → (ℕ → Node) → Laid → ℕ → HeadFlow
+newIn ls w nodes l = endToEnd (l .pipe .reaches) (atStart ls w nodes l) (atFinish ls w nodes l) (between w l)
 
-unfoldable pub newAt : List Laid → Inputs → State → Place → HeadFlow
-newAt ls f st nowhere = record { head = zero64; flow = zero64 }
-newAt ls f st (place l i) = newIn ls f st l i
+unfoldable pub newAt : List Laid → AlongPipes → (ℕ → Node) → Place → HeadFlow
+newAt ls w nodes nowhere = record { head = zero64; flow = zero64 }
+newAt ls w nodes (place l i) = newIn ls w nodes l i
 
 -- "A finished step raises the maximum where the head is greater, lowers the minimum where it is less."
 unfoldable pub raised : Float → Float → Float
@@ -115,9 +121,9 @@ updated new old = record {
   lowest = lowered (old .lowest) (new .head);
 }
 
-unfoldable pub newPoint : List Laid → Inputs → State → ℕ → Point
-newPoint ls f st s = updated (newAt ls f st (located ls s)) (pointAt st s)
+unfoldable pub newPoint : List Laid → AlongPipes → (ℕ → Node) → State → ℕ → Point
+newPoint ls w nodes st s = updated (newAt ls w nodes (located ls s)) (pointAt st s)
 
--- "A step works out every section from the old state": step n, counted from 1
+-- "A step works out every section from the old state": step n, counted from 1. "v is its scheduled value at the step."
 unfoldable pub advanced : Job → ℕ → State → State
-advanced j n st = record { points = listed (sections j) (newPoint (laid j) (inputs j n) st) }
+advanced j n st = record { points = listed (sections j) (newPoint (laid j) (alongPipes j st) (nodesWith j (scheduled j n)) st) }

@@ -13,5 +13,5 @@ paperAnswer (NotFinite m s) = record { number = 40; steps = m; section = s }
 paperAnswer (Parted m s) = record { number = 41; steps = m; section = s }
 
 -- what a call leaves in the rows, and its answer
-abbrev pub left : Rows → Answer → Called
-left rows answer = record { rows = rows; answer = paperAnswer answer }
+abbrev pub callLeaves : Rows → Answer → Called
+callLeaves rows answer = record { rows = rows; answer = paperAnswer answer }

@@ -1,49 +1,25 @@
 // The start and the run-on, over lent rows.
 ghost use mathlib.Core.Path.{_≡_};
 ghost use Prim.Native.Nat.{_+_, _≤_};
-ghost use lib.Dec.{leb};
 ghost use Rattle.job.specs.Job.{sections};
 ghost use Rattle.job.specs.Format.{jobOf};
-ghost use Rattle.job.specs.Questions.{Accepted};
 ghost use Rattle.recurrence.specs.State.{State};
-ghost use Rattle.recurrence.specs.Run.{answerOf, started, ran, completed, steps, withinLimit};
-ghost use Rattle.recurrence.specs.Calls.{gathered, every, inUse, stateIn, called, startCall, runOnCall};
+ghost use Rattle.recurrence.specs.Run.{answerOf, started, ran, completed, steps};
+ghost use Rattle.recurrence.specs.Calls.{stateIn, called, startCall, runOnCall};
 ghost use Rattle.recurrence.specs.Slices.{lent, before, after};
-ghost use Rattle.surge.specs.Answers.{paperAnswer, left};
-ghost use Rattle.steps.specs.Steps.{Ready, resultOf};
+ghost use Rattle.surge.specs.Answers.{paperAnswer, callLeaves};
+ghost use Rattle.time_step.specs.StepsInRows.{Ready, resultOf};
 
 mod answer;
+mod questions;
 mod state;
 
 pub use answer::Answer;
 pub use answer::Numbers;
 pub use answer::numbers_of;
 use job::Read;
-use rows::Scan;
-use steps::Ended;
-
-// The most steps that a run may come to.
-const LIMIT: u64 = 1000000;
-
-// Question 20 of a job of n sections, of the lengths of the rows.
-fn enough(job: &[u8], n: usize, a: usize, b: usize, c: usize, d: usize, e: usize) -> bool
-    requires { ⌜ (Accepted (now job)) × (n ≡ sections (jobOf (now job))) ⌝ }
-    ensures { λ r. ⌜ r ≡ every (λ x. leb (inUse (jobOf (now (job .entry))) x) (gathered a b c d e x)) ⌝ }
-{
-    let m = ends::laid::pipe_count(job) * 4;
-    (n <= a) & (n <= b) & (n <= c) & (n <= d) & (m <= e)
-}
-
-// Question 21.
-fn within_limit(done: u64, count: u64) -> bool
-    ensures { λ r. ⌜ r ≡ withinLimit done count ⌝ }
-{
-    if done <= LIMIT {
-        count <= LIMIT - done
-    } else {
-        false
-    }
-}
+use section::Scan;
+use time_step::Ended;
 
 // The answer of a run.
 fn answer_of(ended: Ended) -> Answer
@@ -68,7 +44,7 @@ fn begin(
     spare: &mut [f64],
 ) -> Answer
     requires { ⌜ (Ready (now job) (lent heads flows highest lowest spare)) × (n ≡ sections (jobOf (now job))) ⌝ }
-    ensures { λ r. ⌜ left (after heads flows highest lowest spare) r
+    ensures { λ r. ⌜ callLeaves (after heads flows highest lowest spare) r
         ≡ called (now (job .entry)) (before heads flows highest lowest spare)
         (ran (started (jobOf (now (job .entry)))) completed) ⌝ }
 {
@@ -86,26 +62,28 @@ pub fn start(
     lowest: &mut [f64],
     spare: &mut [f64],
 ) -> Answer
-    ensures { λ r. ⌜ left (after heads flows highest lowest spare) r
+    ensures { λ r. ⌜ callLeaves (after heads flows highest lowest spare) r
         ≡ startCall (now (job .entry)) (before heads flows highest lowest spare) ⌝ }
 {
-    let read = job::read(job);
+    let read = questions::read_and_enough(
+        job,
+        heads.len(),
+        flows.len(),
+        highest.len(),
+        lowest.len(),
+        spare.len(),
+    );
     match read {
         Read::Refused(q) => Answer::Refused(q),
-        Read::Accepted { sections, steps: _ } => {
-            if !enough(
-                job,
-                sections,
-                heads.len(),
-                flows.len(),
-                highest.len(),
-                lowest.len(),
-                spare.len(),
-            ) {
-                return Answer::Refused(20);
-            }
-            begin(job, sections, heads, flows, highest, lowest, spare)
-        }
+        Read::Accepted { sections, steps: _ } => begin(
+            job,
+            sections,
+            heads,
+            flows,
+            highest,
+            lowest,
+            spare,
+        ),
     }
 }
 
@@ -123,11 +101,10 @@ fn carry_on(
     requires { ⌜ (Ready (now job) (lent heads flows highest lowest spare)) × (done + count ≤ 1000000) ⌝ }
     ensures { λ r. ⌜ (let j = jobOf (now (job .entry)) in
         let old = before heads flows highest lowest spare in
-        left (after heads flows highest lowest spare) r
+        callLeaves (after heads flows highest lowest spare) r
         ≡ called (now (job .entry)) old (steps j count done (stateIn j old))) ⌝ }
 {
-    let sums = ends::sums::constant_sums(job);
-    let ended = steps::run(job, done, count, sums, heads, flows, highest, lowest, spare);
+    let ended = time_step::run(job, done, count, heads, flows, highest, lowest, spare);
     state::clear_spare(job, spare);
     answer_of(ended)
 }
@@ -143,30 +120,26 @@ pub fn run_on(
     lowest: &mut [f64],
     spare: &mut [f64],
 ) -> Answer
-    ensures { λ r. ⌜ left (after heads flows highest lowest spare) r
+    ensures { λ r. ⌜ callLeaves (after heads flows highest lowest spare) r
         ≡ runOnCall (now (job .entry)) done count (before heads flows highest lowest spare) ⌝ }
 {
-    let read = job::read(job);
+    let read = questions::read_and_enough(
+        job,
+        heads.len(),
+        flows.len(),
+        highest.len(),
+        lowest.len(),
+        spare.len(),
+    );
     match read {
-        Read::Refused(question) => Answer::Refused(question),
+        Read::Refused(q) => Answer::Refused(q),
         Read::Accepted { sections, steps: _ } => {
-            if !enough(
-                job,
-                sections,
-                heads.len(),
-                flows.len(),
-                highest.len(),
-                lowest.len(),
-                spare.len(),
-            ) {
-                return Answer::Refused(20);
-            }
-            let limit = within_limit(done, count);
-            let held = state::acceptable(job, sections, heads, flows, highest, lowest);
+            let limit = questions::within_limit(done, count);
+            let fit = state::acceptable(job, sections, heads, flows, highest, lowest);
             if !limit {
                 return Answer::Refused(21);
             }
-            if !held {
+            if !fit {
                 return Answer::Refused(22);
             }
             carry_on(job, done, count, heads, flows, highest, lowest, spare)

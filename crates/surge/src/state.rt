@@ -9,7 +9,7 @@ ghost use Rattle.fields.specs.Real.{zero64};
 ghost use Rattle.loops.specs.Fill.{fill};
 ghost use Rattle.job.specs.Job.{sections, initialAt};
 ghost use Rattle.job.specs.Format.{jobOf, pipeTable, pipeCount};
-ghost use Rattle.job.specs.FromTables.{initialOf};
+ghost use Rattle.job.specs.TableEntries.{initialOf};
 ghost use Rattle.job.specs.Questions.{Accepted, initialFits};
 ghost use Rattle.recurrence.specs.Scan.{acceptable};
 ghost use Rattle.recurrence.specs.Calls.{stateIn, gathered};
@@ -64,7 +64,7 @@ pub fn write_start(
         × (now (highest .exit) ≡ fill head (now (highest .entry)) 0 n)
         × (now (lowest .exit) ≡ fill head (now (lowest .entry)) 0 n)) ⌝ }
 {
-    let initial = job::pairs::table(job, 3);
+    let initial = job::tables::initial(job);
     write_initial(initial, n, heads, flows, highest, lowest);
 }
 
@@ -74,8 +74,8 @@ pub fn clear_spare(job: &[u8], spare: &mut [f64])
     ensures { λ _. ⌜ now (spare .exit)
         ≡ fill (λ (s : ℕ). zero64) (now (spare .entry)) 0 (pipeCount (pipeTable (now (job .entry))) * 4) ⌝ }
 {
-    let used = ends::laid::pipe_count(job) * 4;
-    rows::clear_row(used, spare);
+    let used = pipe_ends::layout::pipe_count(job) * 4;
+    section::clear_row(used, spare);
 }
 
 // Question 22; e stands for the spare, which it does not ask about.
@@ -94,6 +94,6 @@ pub fn acceptable(
         r ≡ acceptable j (stateIn j (gathered (now (heads .entry)) (now (flows .entry))
         (now (highest .entry)) (now (lowest .entry)) e))) ⌝ }
 {
-    let initial = job::pairs::table(job, 3);
-    rows::acceptable(initial, n, heads, flows, highest, lowest)
+    let initial = job::tables::initial(job);
+    section::acceptable(initial, n, heads, flows, highest, lowest)
 }

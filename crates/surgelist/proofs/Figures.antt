@@ -1,6 +1,6 @@
 -- The figures of the listing, by computation on the definitions. Assumes nothing.
 use mathlib.Core.Path.{refl}
-use Rattle.recurrence.proofs.Opened.{opened}
+use Rattle.recurrence.proofs.AllDefinitions.{opened}
 use Rattle.listing.specs.Text.{digits, placesWithin}
 use Rattle.listing.specs.Listing.{closingText, linesText}
 use Rattle.surgelist.specs.ListingOf.{runOf, pointLine, sectionLines, closingLine, listingOf}

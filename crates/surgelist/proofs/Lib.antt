@@ -1,3 +1,2 @@
-pub mod StartLaws
 pub mod ListingLaws
 pub mod Figures

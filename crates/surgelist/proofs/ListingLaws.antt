@@ -1,30 +1,32 @@
--- What the program's calls write is a job's listing: a refused job's closing line alone; else the run-on goes from the start's rows, and the rows that it
--- leaves hold, section by section, the state that the run left. Assumes nothing.
+-- What the program's calls write is a job's listing: a refused job's closing line alone; else rows of 512 entries pass question 20 and the listing's
+-- steps question 21, the run-on goes from the start's rows, and the rows that it leaves hold, section by section, the state that the run left.
+-- Assumes nothing.
 use mathlib.Core.Path.{_≡_, refl, ap, ap₂, _∙_}
+use mathlib.Core.Bool.{true}
 use mathlib.Core.List.{List, _++_}
 use Prim.Native.Nat.{ℕ, zero, suc, _<_}
 use native.Mathlib.Omega.{arith}
 use lib.ListN.{getD}
-use lib.Ieee.{nan}
+use lib.Ieee.{Float, nan}
 use borrow.Author.Tests.{ne-eqb}
 use Rattle.fields.specs.Real.{zero64}
 use Rattle.job.specs.Job.{Job, sections}
 use Rattle.job.specs.Format.{listingSteps, jobOf}
-use Rattle.job.specs.Questions.{refusal, Accepted}
-use Rattle.job.proofs.Accepted.{section-limit}
+use Rattle.job.specs.Questions.{refusal, stepsFit, Accepted}
+use Rattle.job.proofs.Accepted.{tables-right, pipe-limits, section-limit}
 use Rattle.recurrence.specs.State.{pointAt, startState}
-use Rattle.recurrence.specs.Run.{refused, ran, Answer, answerOf, ask, started, start, runOn}
-use Rattle.recurrence.specs.Calls.{heads, flows, highest, lowest, Rows, pointIn, stateIn, rowsOf, rowsAfter, Called, readFirst, called, startResult, startCall, runOnResult, runOnCall}
-use Rattle.recurrence.proofs.Runs.{Sized, Ran, steps-ran}
-use Rattle.recurrence.proofs.RowLaws.{holds-point, holds-state, rows-hold}
-use Rattle.recurrence.proofs.Tied.{start-sized}
+use Rattle.recurrence.specs.Run.{refused, ran, Answer, answerOf, ask, withinLimit, started, start, runOn}
+use Rattle.recurrence.specs.Calls.{heads, flows, highest, lowest, Rows, gathered, enoughLent, pointIn, stateIn, rowsOf, rowsAfter, Called, readFirst, called, startResult, startCall, runOnResult, runOnCall}
+use Rattle.recurrence.proofs.Runs.{Sized, RanSteps, steps-ran}
+use Rattle.recurrence.proofs.EachRow.{each}
+use Rattle.recurrence.proofs.RowLaws.{each-enough, holds-point, holds-state, rows-hold}
+use Rattle.recurrence.proofs.TiedCalls.{start-sized}
 use Rattle.recurrence.proofs.GoesOn.{start-acceptable}
 use Rattle.loops.proofs.Within.{getD-within}
 use Rattle.listing.specs.Listing.{linesText, closingText, AtFront}
-use Rattle.listing.specs.Written.{rowLine}
+use Rattle.listing.specs.InnerContracts.{rowLine}
 use Rattle.surgelist.specs.ListingOf.{runOf, pointLine, sectionLines, closingLine, listingOf}
-use Rattle.surgelist.specs.Lent.{Long, textOf}
-use Rattle.surgelist.proofs.StartLaws.{long-enough, listing-within}
+use Rattle.surgelist.specs.LentRows.{Long, textOf}
 
 -- ---- lists and lines
 
@@ -44,6 +46,10 @@ row-point r long s l =
     rw (a, b, c, d)
 
 -- ---- what is written
+
+-- the five rows that a call leaves, as its place in a proof has them
+abbrev pub rowsLeft : {X : Type 0} → List Float × (List Float × (List Float × (List Float × (List Float × X)))) → Rows
+rowsLeft l = gathered (l .0) (l .1 .0) (l .1 .1 .0) (l .1 .1 .1 .0) (l .1 .1 .1 .1 .0)
 
 -- one text at the front of a slice is another, where the two are equal
 pub front-is : {t u held left : List ℕ} {n : ℕ} → AtFront t held n left → t ≡ u → AtFront u held n left
@@ -72,49 +78,61 @@ module _ (job : List ℕ) (ok : Accepted job) where
   abbrev j : Job
   j = jobOf job
 
+  -- questions 20 and 21, by questions 4, 5 and 8
+  long-enough : (r : Rows) → Long r → enoughLent j r ≡ true
+  long-enough r l =
+      let n = section-limit job ok in
+      let p = pipe-limits job ok .1 in
+      each-enough j r (each _ (omega arith) (omega arith) (omega arith) (omega arith) (omega arith))
+
+  listing-within : withinLimit 0 (listingSteps job) ≡ true
+  unfolding withinLimit stepsFit
+  listing-within = tables-right job ok .pairs .steps
+
   -- the rows that the start leaves hold the start's state
   begun-state : (lent : Rows) → Long lent → stateIn j (startCall job lent .rows) ≡ startState j
   unfolding startCall startResult called readFirst start ask started rowsAfter
   begun-state lent l =
-      rw (ok, long-enough job ok lent l)
+      rw (ok, long-enough lent l)
       (holds-state j (rowsOf j (startState j) lent) (startState j) (λ x _. rows-hold j (startState j) lent (start-sized job) x) (start-sized job))
 
   -- what the run-on comes to from there
   run-is : (begun : Rows) → Long begun → stateIn j begun ≡ startState j → runOnResult job 0 (listingSteps job) begun ≡ runOf job
   unfolding runOnResult runOf readFirst runOn ask
-  run-is begun l e = rw (ok, long-enough job ok begun l, listing-within job ok, e, start-acceptable job ok)
+  run-is begun l e = rw (ok, long-enough begun l, listing-within, e, start-acceptable job ok)
 
-  x : Ran j (listingSteps job) 0 (startState j)
-  x = steps-ran j (listingSteps job) 0 (startState j)
+  -- the run of the listing's steps from the start
+  whole : RanSteps j (listingSteps job) 0 (startState j)
+  whole = steps-ran j (listingSteps job) 0 (startState j)
 
-  run-ran : runOf job ≡ ran (x .run) (x .ending)
+  run-ran : runOf job ≡ ran (whole .run) (whole .ending)
   unfolding runOf readFirst
-  run-ran = rw ok (x .is)
+  run-ran = rw ok (whole .is)
 
-  module _ (begun : Rows) (lb : Long begun) (eb : stateIn j begun ≡ startState j) (c : Called) (ec : c ≡ runOnCall job 0 (listingSteps job) begun) (lc : Long (c .rows)) where
-    left : c ≡ called job begun (ran (x .run) (x .ending))
+  module _ (begun : Rows) (long : Long begun) (as-started : stateIn j begun ≡ startState j) (c : Called) (is-run-on : c ≡ runOnCall job 0 (listingSteps job) begun) (long-left : Long (c .rows)) where
+    call-is : c ≡ called job begun (ran (whole .run) (whole .ending))
     unfolding runOnCall
-    left = ec ∙ ap (called job begun) (run-is begun lb eb ∙ run-ran)
+    call-is = is-run-on ∙ ap (called job begun) (run-is begun long as-started ∙ run-ran)
 
-    point-is : (s : ℕ) → s < sections j → pointIn (c .rows) s ≡ pointAt (x .run .state) s
+    point-is : (s : ℕ) → s < sections j → pointIn (c .rows) s ≡ pointAt (whole .run .state) s
     unfolding called rowsAfter
     point-is =
-        let sized : Sized j (x .run .state) = x .sized (start-sized job) in
-        holds-point j (c .rows) (x .run .state) (λ y _. rw left (rows-hold j (x .run .state) begun sized y)) sized
+        let sized : Sized j (whole .run .state) = whole .sized (start-sized job) in
+        holds-point j (c .rows) (whole .run .state) (λ y _. rw call-is (rows-hold j (whole .run .state) begun sized y)) sized
 
-    answer-is : c .answer ≡ answerOf (ran (x .run) (x .ending))
+    answer-is : c .answer ≡ answerOf (ran (whole .run) (whole .ending))
     unfolding called
-    answer-is = ap (λ (y : Called). y .answer) left
+    answer-is = ap (λ (y : Called). y .answer) call-is
 
     ran-listing : textOf (sections j) (c .rows) (c .answer) ≡ listingOf job
     unfolding listingOf sectionLines
     ran-listing =
         rw (run-ran, answer-is)
-        (ap (λ (t : List ℕ). t ++ closingLine (answerOf (ran (x .run) (x .ending))))
-        (lines-cong (sections j) _ _ (λ s l. row-point (c .rows) lc s (omega (arith, section-limit job ok)) ∙ ap (pointLine s) (point-is s l))))
+        (ap (λ (t : List ℕ). t ++ closingLine (answerOf (ran (whole .run) (whole .ending))))
+        (lines-cong (sections j) _ _ (λ s l. row-point (c .rows) long-left s (omega (arith, section-limit job ok)) ∙ ap (pointLine s) (point-is s l))))
 
   -- the rows after the start and after the run-on, with their answers
-  pub written-listing : (lent : Rows) (b c : Called) (N : ℕ) → Long lent → Long (b .rows) → Long (c .rows)
+  pub written-listing : {lent : Rows} {b c : Called} {N : ℕ} → Long lent → Long (b .rows) → Long (c .rows)
       → b ≡ startCall job lent → c ≡ runOnCall job 0 N (b .rows) → N ≡ listingSteps job → textOf (sections j) (c .rows) (c .answer) ≡ listingOf job
-  written-listing lent b c N l lb lc eb ec n =
+  written-listing {lent} {b} {c} l lb lc eb ec n =
       ran-listing (b .rows) lb (ap (λ (y : Called). stateIn j (y .rows)) eb ∙ begun-state lent l) c (rw n at ec) lc

@@ -1,3 +1,3 @@
 pub mod ListingOf
-pub mod Lent
+pub mod LentRows
 pub mod Figures

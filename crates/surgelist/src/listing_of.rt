@@ -9,7 +9,7 @@ ghost use Rattle.recurrence.specs.Slices.{lent, after};
 ghost use Rattle.surge.specs.Answers.{paperAnswer};
 ghost use Rattle.listing.specs.Listing.{AtFront};
 ghost use Rattle.surgelist.specs.ListingOf.{listingOf};
-ghost use Rattle.surgelist.specs.Lent.{Long, textOf};
+ghost use Rattle.surgelist.specs.LentRows.{Long, textOf};
 use job::Read;
 use surge::Answer;
 
@@ -33,38 +33,6 @@ fn run(
     surge::run_on(job, 0, steps as u64, heads, flows, highest, lowest, spare)
 }
 
-// The listing of an accepted job of `count` sections.
-fn write_accepted(
-    job: &[u8],
-    count: usize,
-    steps: usize,
-    heads: &mut [f64],
-    flows: &mut [f64],
-    highest: &mut [f64],
-    lowest: &mut [f64],
-    spare: &mut [f64],
-    out: &mut [u8],
-) -> usize
-    requires { ⌜ (Accepted (now job)) × (count ≡ sections (jobOf (now job))) × (steps ≡ listingSteps (now job)) ⌝ }
-    requires { ⌜ (Long (lent heads flows highest lowest spare)) × (513 * 72 ≤ length (now out)) ⌝ }
-    ensures { λ r. ⌜ AtFront (listingOf (now (job .entry))) (now (out .entry)) r (now (out .exit)) ⌝ }
-{
-    let answer = run(job, steps, heads, flows, highest, lowest, spare);
-    let end = surge::numbers_of(answer);
-    let done = end.steps as usize;
-    listing::write_listing(
-        count,
-        end.number,
-        done,
-        end.section,
-        heads,
-        flows,
-        highest,
-        lowest,
-        out,
-    )
-}
-
 // Writes the listing of a job at the front of `out` and answers how many bytes it takes. The rows
 // are the program's own: what is left in them is nobody's, and no clause speaks of it.
 pub fn write_listing_of(
@@ -83,15 +51,18 @@ pub fn write_listing_of(
     match read {
         Read::Refused(q) => listing::write_listing(0, q, 0, 0, heads, flows, highest, lowest, out),
         Read::Accepted { sections, steps } => {
-            write_accepted(
-                job,
+            let answer = run(job, steps, heads, flows, highest, lowest, spare);
+            let end = surge::numbers_of(answer);
+            let done = end.steps as usize;
+            listing::write_listing(
                 sections,
-                steps,
+                end.number,
+                done,
+                end.section,
                 heads,
                 flows,
                 highest,
                 lowest,
-                spare,
                 out,
             )
         }

@@ -5,7 +5,7 @@ Reads crates/ as text, from the top of the repository. It fails where
 - a definition, law or function is named by no other declaration (named-once.txt beside this file lists those that
   a reader or a program outside the crates names, with the reason),
 - a name is imported and not used, or a function is `pub` and called in its own file alone,
-- README.md, docs/PROMISES.md or docs/DECISIONS.md cites, in backticks, a name that stands nowhere.
+- README.md, CONTRIBUTING.md or a page of docs/ cites, in backticks, a name that stands nowhere.
 A field or a constructor goes with the record or type that declares it.
 """
 import collections
@@ -171,7 +171,7 @@ def calls_elsewhere(f, name, code):
     """Whether another file calls a function: by its module's name, by a method, or by a `use` of it."""
     stem = f.relative_to(CRATES).parts[0] if f.name in ("lib.rt", "main.rt") else f.stem
     by_path = re.compile(r"\b(?:%s|super|Self|[A-Z]\w*)::%s\b|\.%s\(" % (stem, name, name))
-    return any(by_path.search(code_body(t)) or re.search(r"^\s*(?:pub )?use [\w:]*\b%s::%s;" % (stem, name), t, re.M)
+    return any(by_path.search(code_body(t)) or re.search(r"^\s*(?:pub )?use [\w:]*\b(?:%s|super)::%s;" % (stem, name), t, re.M)
                for g, t in code.items() if g != f)
 
 
@@ -201,7 +201,7 @@ def cited(antt, code):
         if f.suffix in (".rt", ".antt", ".rs", ".sh", ".py", ".h", ".c", ".edit", ".txt", ".toml"):
             known.update(re.findall(r"[^\s(){}\[\];,.«»⌜⌝@:&*\"'`]+", f.read_text(errors="replace")))
     known |= {"-".join(k.split("-")[:n]) for k in known if "-" in k for n in range(1, k.count("-") + 1)}
-    for d in ("README.md", "docs/PROMISES.md", "docs/DECISIONS.md"):
+    for d in ("README.md", "CONTRIBUTING.md", "docs/MANUAL.md", "docs/GLOSSARY.md", "docs/PROMISES.md", "docs/DECISIONS.md"):
         for number, line in enumerate((TOP / d).read_text().split("\n"), 1):
             for quoted in re.findall(r"`([^`]+)`", line):
                 for name in re.findall(r"[A-Za-z_][\w\-]*", quoted):

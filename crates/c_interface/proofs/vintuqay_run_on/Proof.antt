@@ -1,15 +1,14 @@
--- `c_interface::vintuqay_run_on` meets its contract: the answer of `surge::run_on` packed, and its rows. Assumes nothing.
-use mathlib.Core.Path.{_∙_, ap}
+-- `c_interface::vintuqay_run_on` meets its contract: `surge::run_on` answers and leaves what the definition says, and its answer is packed. Assumes nothing.
 use borrow.Author.Needs.{needs}
-use Rattle.recurrence.specs.Calls.{Called}
-use Rattle.c_interface.specs.Packed.{packedAnswer}
+use Rattle.c_interface.proofs.Parts.{packed-call}
 use Rattle.c_interface.proofs.vintuqay_run_on.Statement.{statement}
 use Rattle.c_interface.proofs.vintuqay_run_on.Tie as tie
 
 returns : tie.Need-returns
 returns c =
-    let left = c .before .before .before .before .before .before .before .before .before .before .before .run-on .ensures in
-    (c .pack-answer .ensures ∙ ap (λ (x : Called). packedAnswer (x .answer)) left, ap (λ (x : Called). x .rows) left)
+    let known : tie.After-slice-known8 = c .before .before .before .before .before in
+    let called : tie.After-run-on = known .before .before .before .before .before .before in
+    packed-call (c .pack-answer .ensures) (called .run-on .ensures)
 
 pub vintuqay-run-on-spec : {M : Type 1} → statement M
 vintuqay-run-on-spec =

@@ -1,7 +1,5 @@
--- `line_bytes::number` is safe: past the test the pattern is no NaN's. Assumes nothing.
-use mathlib.Core.Path.{sym, _∙_, subst}
-use mathlib.Core.Bool.{Bool, not}
-use lib.Dec.{T}
+-- `line_bytes::number` is safe: the patterns of the NaNs are those above the infinity's, the sign left out, and past the test none of them is left.
+-- Assumes nothing.
 use lib.Ieee.{binary64}
 use lib.Ieee.Bits.{nanBits-above}
 use borrow.Author.Needs.{needs}
@@ -10,8 +8,7 @@ use Rattle.line_bytes.proofs.number.Statement.{statement}
 use Rattle.line_bytes.proofs.number.Tie as tie
 
 float-from-bits-result : tie.Need-float-from-bits-result
-float-from-bits-result c =
-    subst (λ (t : Bool). T (not t)) (sym (nanBits-above binary64 (c .before .args .b) ∙ le-ltb _ _ (c .if1 .left))) tt
+float-from-bits-result c = rw (nanBits-above binary64 (c .before .args .b), le-ltb _ _ (c .if1 .left)) tt
 
 pub number-spec : {M : Type 1} → statement M
 number-spec = tie.close (tie.spec (λ c. search needs) float-from-bits-result (λ c. search needs))

@@ -1,7 +1,8 @@
--- `listing::line` meets its contract: the part is as long as the text that was written, and begins where the slice does. Assumes nothing.
+-- `listing::line` meets its contract: the part has as many bytes as `write_line` answers, which are the text at the front, and begins where the slice
+-- does. Assumes nothing.
 use native.Mathlib.Nat.{zero-add}
 use borrow.Author.Needs.{needs}
-use Rattle.listing.proofs.Stores.{front-within, front-part}
+use Rattle.listing.proofs.StoredTexts.{front-within, front-part}
 use Rattle.listing.proofs.line.Statement.{statement}
 use Rattle.listing.proofs.line.Tie as tie
 

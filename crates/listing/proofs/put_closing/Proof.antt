@@ -1,33 +1,36 @@
--- `listing::put_closing` meets its contract: each answer rewrites the definition's tests with those that led there. Assumes nothing.
+-- `listing::put_closing` meets its contract: the tests for 0, 40 and 41 are those of the definition, in its order, so that each arm stores the words
+-- that the definition gives there. Assumes nothing.
 use borrow.Author.Needs.{needs}
 use borrow.Author.Tests.{eq-eqb, ne-eqb}
 use Rattle.listing.specs.Listing.{closingText}
 use Rattle.listing.proofs.put_closing.Statement.{statement}
 use Rattle.listing.proofs.put_closing.Tie as tie
 
-returns : tie.Need-returns
+done : tie.Need-returns
 unfolding closingText
-returns c =
-    let s = c .before .before .before .before .before in
-    rw (eq-eqb _ _ (s .if1 .taken)) (c .before .before .put-word-number .ensures)
+done c =
+    let zero : tie.Then1 = c .before .before .before .before .before in
+    rw (eq-eqb _ _ (zero .if1 .taken)) (c .before .before .put-word-number .ensures)
 
-returns-2 : tie.Need-returns-2
+not-finite : tie.Need-returns-2
 unfolding closingText
-returns-2 c =
-    let s = c .before .before .before .before .before in
-    rw (ne-eqb _ _ (s .before .if1 .left), eq-eqb _ _ (s .if2 .taken)) (c .before .before .put-word-numbers .ensures)
+not-finite c =
+    let forty : tie.Then2 = c .before .before .before .before .before in
+    rw (ne-eqb _ _ (forty .before .if1 .left), eq-eqb _ _ (forty .if2 .taken)) (c .before .before .put-word-numbers .ensures)
 
-returns-3 : tie.Need-returns-3
+parted : tie.Need-returns-3
 unfolding closingText
-returns-3 c =
-    let s = c .before .before .before .before .before in
-    rw (ne-eqb _ _ (s .before .before .if1 .left), ne-eqb _ _ (s .before .if2 .left), eq-eqb _ _ (s .if3 .taken)) (c .before .before .put-word-numbers2 .ensures)
+parted c =
+    let forty-one : tie.Then3 = c .before .before .before .before .before in
+    let other : tie.Else2 = forty-one .before in
+    rw (ne-eqb _ _ (other .before .if1 .left), ne-eqb _ _ (other .if2 .left), eq-eqb _ _ (forty-one .if3 .taken)) (c .before .before .put-word-numbers2 .ensures)
 
-returns-4 : tie.Need-returns-4
+refused : tie.Need-returns-4
 unfolding closingText
-returns-4 c =
-    let s = c .before .before .before .before .before in
-    rw (ne-eqb _ _ (s .before .before .if1 .left), ne-eqb _ _ (s .before .if2 .left), ne-eqb _ _ (s .if3 .left)) (c .before .before .put-word-number2 .ensures)
+refused c =
+    let question : tie.Else3 = c .before .before .before .before .before in
+    let other : tie.Else2 = question .before in
+    rw (ne-eqb _ _ (other .before .if1 .left), ne-eqb _ _ (other .if2 .left), ne-eqb _ _ (question .if3 .left)) (c .before .before .put-word-number2 .ensures)
 
 pub put-closing-spec : {M : Type 1} → statement M
 put-closing-spec =
@@ -36,16 +39,16 @@ put-closing-spec =
     (λ c. search needs)
     (λ c κs. search needs)
     (λ c. search needs)
-    returns
+    done
     (λ c. search needs)
     (λ c κs. search needs)
     (λ c. search needs)
-    returns-2
+    not-finite
     (λ c. search needs)
     (λ c κs. search needs)
     (λ c. search needs)
-    returns-3
+    parted
     (λ c. search needs)
     (λ c κs. search needs)
     (λ c. search needs)
-    returns-4)
+    refused)

@@ -1,19 +1,19 @@
--- `listing::put_word_numbers` meets its contract: the word, the two numbers and the newline, one behind another. Assumes nothing.
+-- `listing::put_word_numbers` meets its contract: the word, the two numbers with their spaces, and the newline, each stored behind the one before it.
+-- Assumes nothing.
 use native.Mathlib.Omega.{arith}
 use borrow.Author.Needs.{needs}
-use Rattle.listing.proofs.Stores.{joined}
+use Rattle.listing.proofs.StoredTexts.{joined}
 use Rattle.listing.proofs.put_word_numbers.Statement.{statement}
 use Rattle.listing.proofs.put_word_numbers.Tie as tie
 
 returns : tie.Need-returns
 returns c =
-    let d = c .before .before in
-    let b = d .before .before .before .before in
-    let a = b .before .before .before .before in
-    let t = a .before .before .before .before in (
-      joined (t .put-text .ensures) (joined (a .put-number .ensures .0) (joined (b .put-number2 .ensures .0) (d .put-newline .ensures .0))),
-      omega (arith, t .before .before .before .before .pre, t .put-text .ensures .after),
-    )
+    let newline : tie.After-put-newline = c .before .before in
+    let n : tie.After-put-number2 = newline .before .before .before .before in
+    let m : tie.After-put-number = n .before .before .before .before in
+    let word : tie.After-put-text = m .before .before .before .before in
+    let after-m = joined (n .put-number2 .ensures .0) (newline .put-newline .ensures .0) in
+    (joined (word .put-text .ensures) (joined (m .put-number .ensures .0) after-m), omega (arith, word .before .before .before .before .pre, word .put-text .ensures .after))
 
 pub put-word-numbers-spec : {M : Type 1} → statement M
 put-word-numbers-spec =

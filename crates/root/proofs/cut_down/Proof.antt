@@ -1,4 +1,4 @@
--- `root::cut_down` meets its contract: the root is kept as it is. Assumes nothing.
+-- Cutting down keeps the digits of the root and drops the rest. Assumes nothing.
 use mathlib.Core.Path.{refl}
 use Rattle.root.proofs.cut_down.Statement.{statement}
 use Rattle.root.proofs.cut_down.Tie as tie

@@ -1,4 +1,5 @@
--- `root::next_digits` meets its contract: a turn brings two digits more down, and leaves the root and the rest of all that are down. Assumes nothing.
+-- After i turns, root and rest are those of the digits brought down: a turn brings two more down, and the next digit of the root is 1 exactly where four
+-- times the root and 1 still fits what is left. Assumes nothing.
 use mathlib.Core.Path.{_≡_, sym, ap, _∙_}
 use mathlib.Core.Logic.{⊎-elim}
 use Prim.Native.Nat.{ℕ, _+_, _-_, _*_, _/_, _%_, _^_, _≤_, _<_}
@@ -54,27 +55,9 @@ module _ {turns start over root rest left i : ℕ} (a : After turns start over r
       let e : (root * root + rest) * 2 ^ 54 + left ≡ start * 4 ^ turns = a .all ∙ ap (λ (x : ℕ). start * 4 ^ x) (le-antisymm (a .turned) h) in
       record { all = omega (arith, a .room); small = a .small }
 
-loop-holds : tie.Need-loop-holds Inv-loop μ-loop
-loop-holds c = omega arith
-
 -- the root's bound, by which every sum and product of a turn fits
 bound : (c : tie.At-loop Inv-loop μ-loop) → c .loop .root < 2 ^ 53
 bound c = omega (arith, c .loop .inv .short, mul-le-mul-left (c .before .args .w .root + 1) (pow-mono (c .loop .inv .turned)), c .before .pre .short)
-
-mul-down : tie.Need-mul-down Inv-loop μ-loop
-mul-down c = omega (arith, bound (c .before))
-
-add-down : tie.Need-add-down Inv-loop μ-loop
-add-down c = omega (arith, bound (c .before))
-
-mul-left : tie.Need-mul-left Inv-loop μ-loop
-mul-left c = omega arith
-
-mul-trial : tie.Need-mul-trial Inv-loop μ-loop
-mul-trial c = omega (arith, bound (c .before))
-
-add-trial : tie.Need-add-trial Inv-loop μ-loop
-add-trial c = omega (arith, bound (c .before))
 
 -- the digit is 0 or 1
 at-most-one : (c : tie.Joined1 Inv-loop μ-loop) → c .if1 .digit ≤ 1
@@ -88,18 +71,6 @@ mul-rest c =
 sub-rest : tie.Need-sub-rest Inv-loop μ-loop
 sub-rest c = ⊎-elim (λ w. rw (w .1) (omega (arith, w .0))) (λ w. rw (w .1) (omega arith)) (c .before .if1 .came)
 
-mul-root : tie.Need-mul-root Inv-loop μ-loop
-mul-root c = omega (arith, bound (c .before .before .before))
-
-add-root : tie.Need-add-root Inv-loop μ-loop
-add-root c = omega (arith, bound (c .before .before .before), at-most-one (c .before))
-
-add-i : tie.Need-add-i Inv-loop μ-loop
-add-i c = omega arith
-
-loop-less : tie.Need-loop-less Inv-loop μ-loop
-loop-less c = omega arith
-
 loop-again : tie.Need-loop-again Inv-loop μ-loop
 loop-again c =
     let a = c .before .before .before .loop .inv in
@@ -108,26 +79,23 @@ loop-again c =
     (λ w. rw (w .1) (zero-digit a (omega arith) (omega (arith, w .0))))
     (c .before .if1 .came)
 
-returns : tie.Need-returns Inv-loop μ-loop
-returns c = finish (c .before .loop .inv) (omega arith)
-
 pub next-digits-spec : {M : Type 1} → statement M
 next-digits-spec =
     tie.close
     (tie.spec
     Inv-loop
     μ-loop
-    loop-holds
-    mul-down
-    add-down
-    mul-left
-    mul-trial
-    add-trial
+    (λ c. omega arith)
+    (λ c. omega (arith, bound (c .before)))
+    (λ c. omega (arith, bound (c .before)))
+    (λ c. omega arith)
+    (λ c. omega (arith, bound (c .before)))
+    (λ c. omega (arith, bound (c .before)))
     mul-rest
     sub-rest
-    mul-root
-    add-root
-    add-i
-    loop-less
+    (λ c. omega (arith, bound (c .before .before .before)))
+    (λ c. omega (arith, bound (c .before .before .before), at-most-one (c .before)))
+    (λ c. omega arith)
+    (λ c. omega arith)
     loop-again
-    returns)
+    (λ c. finish (c .before .loop .inv) (omega arith)))

@@ -1,4 +1,4 @@
--- `root::root` meets its contract: its two tests are question 23's. Assumes nothing.
+-- Question 23 asks that the argument is finite and not below zero, which are the code's two tests; past both, the answer is the root. Assumes nothing.
 use mathlib.Core.Path.{_≡_, sym, _∙_}
 use mathlib.Core.Bool.{true, false}
 use borrow.Author.Needs.{needs}

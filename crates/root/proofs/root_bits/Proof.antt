@@ -1,4 +1,5 @@
--- `root::root_bits` meets its contract: the significand at full width has its root's digits, and half the power is the exponent's field. Assumes nothing.
+-- A number of 53 digits and an even power has a root of 53 digits and half the power: an odd power gives one factor of two to the digits first, and half
+-- of what is left of it is the exponent's field. Assumes nothing.
 use mathlib.Core.Path.{_≡_, sym, ap, _∙_}
 use Prim.Native.Nat.{ℕ, _+_, _-_, _*_, _/_, _%_, _^_, _≤_, _<_}
 use native.Mathlib.Nat.{mul-le-mul-left}

@@ -1,4 +1,5 @@
--- `root::root_of` meets its contract: each return is a law of `proofs/AnswerLaws.antt`, taken from the argument's pattern to the argument. Assumes nothing.
+-- A NaN is its own answer, either zero has the root +0, what is below zero or infinite has none, and every other number's root is made from its pattern:
+-- each return is that law of `AnswerLaws`, taken from the pattern to the number. Assumes nothing.
 use mathlib.Core.Path.{_≡_, refl, sym, ap, _∙_, subst}
 use Prim.Native.Nat.{ℕ, _<_}
 use native.Mathlib.Omega.{arith}
@@ -35,9 +36,6 @@ returns-3 c = minus-zero-answer ∙ at (c .before .before .before) 0x8000_0000_0
 returns-4 : tie.Need-returns-4
 returns-4 c = let s = c .before .before .before .before in high-answer (s .args .x) (held s) (c .if4 .taken) (c .before .if3 .left)
 
-root-bits-requires : tie.Need-root-bits-requires
-root-bits-requires c κs = search needs
-
 above : (c : tie.Else4) → 0 < toBits binary64 (c .before .before .before .before .args .x)
 above c = positive (toBits binary64 (c .before .before .before .before .args .x)) (c .before .before .if2 .left)
   where
@@ -64,6 +62,6 @@ root-of-spec =
     returns-2
     returns-3
     returns-4
-    root-bits-requires
+    (λ c κs. search needs)
     float-from-bits-result
     returns-5)

@@ -1,4 +1,4 @@
--- `root::whole_root` meets its contract: 53 turns bring down the 54 digits of m and 52 zeros. Assumes nothing.
+-- The root of nothing is 0 and leaves 0, and 53 turns bring down the 54 digits of m and 52 zeros, which is m times 2^52. Assumes nothing.
 use mathlib.Core.Path.{_≡_}
 use Prim.Native.Nat.{ℕ, _*_, _^_}
 use native.Mathlib.Omega.{arith}
@@ -9,11 +9,8 @@ use Rattle.root.proofs.whole_root.Tie as tie
 all-down : (m : ℕ) → m * 2 ^ 52 ≡ broughtDown 0 0 m 53
 all-down m = omega arith
 
-next-digits-requires : tie.Need-next-digits-requires
-next-digits-requires c κs = omega arith
-
 returns : tie.Need-returns
 returns c = rw (all-down (c .before .args .m)) (c .next-digits .ensures)
 
 pub whole-root-spec : {M : Type 1} → statement M
-whole-root-spec = tie.close (tie.spec next-digits-requires returns)
+whole-root-spec = tie.close (tie.spec (λ c κs. omega arith) returns)

@@ -1,4 +1,5 @@
--- `root::widened` meets its contract: a subnormal is moved up by its leading zeros, which leaves its value. Assumes nothing.
+-- A subnormal is moved up by its leading zeros until its top digit stands at 2^52, and its power is less by as many; a normal number has that digit
+-- already. Either way the value is the same. Assumes nothing.
 use mathlib.Core.Path.{_≡_, refl, sym, ap, _∙_, subst}
 use Prim.Native.Nat.{ℕ, zero, suc, _+_, _-_, _*_, _/_, _%_, _^_, _≤_, _<_}
 use native.Mathlib.Nat.{le-trans, le-of-eq, lt-of-lt-of-le, lt-of-le-of-lt, mul-assoc, mul-le-mul-right, mul-lt-mul-of-pos-right, mod-eq-of-lt}
@@ -65,24 +66,6 @@ normal-value (suc x) t n =
 lifts : (c : tie.Then1) → Lifted (c .before .args .b % 2 ^ 52) (leadingZeros 64 (c .before .args .b % 2 ^ 52))
 lifts c = lifted (c .before .args .b % 2 ^ 52) (below-full (c .before .args .b) (c .before .pre .0) (c .if1 .taken)) (omega arith)
 
-cast-shift : tie.Need-cast-shift
-cast-shift c = omega (arith, lifts c .shift)
-
-sub-shift : tie.Need-sub-shift
-sub-shift c = omega (arith, lifts c .enough)
-
-shl-t8 : tie.Need-shl-t8
-shl-t8 c = omega (arith, lifts c .shift)
-
-sub-t9 : tie.Need-sub-t9
-sub-t9 c = omega (arith, lifts c .shift)
-
-add-t10 : tie.Need-add-t10
-add-t10 c = search needs
-
-add-t11 : tie.Need-add-t11
-add-t11 c = search needs
-
 returns : tie.Need-returns
 returns c = subnormal (c .before .args .b) (leadingZeros 64 (c .before .args .b % 2 ^ 52)) (c .if1 .taken) (lifts c)
 
@@ -98,4 +81,13 @@ returns-2 c =
 
 pub widened-spec : {M : Type 1} → statement M
 widened-spec =
-    tie.close (tie.spec cast-shift sub-shift shl-t8 sub-t9 add-t10 add-t11 returns returns-2)
+    tie.close
+    (tie.spec
+    (λ c. omega (arith, lifts c .shift))
+    (λ c. omega (arith, lifts c .enough))
+    (λ c. omega (arith, lifts c .shift))
+    (λ c. omega (arith, lifts c .shift))
+    (λ c. search needs)
+    (λ c. search needs)
+    returns
+    returns-2)

@@ -3,7 +3,7 @@ use borrow.Author.Needs.{needs}
 use Rattle.recurrence.specs.Scan.{causeNumber}
 use Rattle.recurrence.specs.Run.{stopAnswer, answerOf}
 use Rattle.surge.specs.Answers.{paperAnswer}
-use Rattle.steps.specs.Steps.{endingOf, resultOf}
+use Rattle.time_step.specs.StepsInRows.{endingOf, resultOf}
 use Rattle.surge.proofs.answer_of.Statement.{statement}
 use Rattle.surge.proofs.answer_of.Tie as tie
 

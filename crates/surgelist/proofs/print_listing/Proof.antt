@@ -1,11 +1,13 @@
 -- `surgelist::print_listing` is safe: the rows and the text are as long as the listing asks, and the listing lies within its text. Assumes nothing.
 use borrow.Author.Needs.{needs}
-use Rattle.listing.proofs.Stores.{front-within}
+use Rattle.listing.proofs.StoredTexts.{front-within}
 use Rattle.surgelist.proofs.print_listing.Statement.{statement}
 use Rattle.surgelist.proofs.print_listing.Tie as tie
 
 part-write-all-end : tie.Need-part-write-all-end
-part-write-all-end c = front-within (c .before .before .before .before .before .before .before .write-listing-of .ensures)
+part-write-all-end c =
+    let heads : tie.After-heads2 = c .before .before .before .before .before .before in
+    front-within (heads .before .write-listing-of .ensures)
 
 pub print-listing-spec : {M : Type 1} → statement M
 print-listing-spec =

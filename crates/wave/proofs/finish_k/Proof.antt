@@ -1,4 +1,4 @@
--- `wave::finish_k` meets its contract, by that of `from_above`. Assumes nothing.
+-- K at a finish is CP. Assumes nothing.
 use borrow.Author.Needs.{needs}
 use Rattle.wave.specs.Wave.{finishK}
 use Rattle.wave.proofs.finish_k.Statement.{statement}

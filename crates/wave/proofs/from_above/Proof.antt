@@ -1,4 +1,4 @@
--- `wave::from_above` meets its contract, by that of `magnitude`. Assumes nothing.
+-- The friction term takes |Q| from `magnitude`; the sums and products are those of the equation, in its order. Assumes nothing.
 use mathlib.Core.Path.{refl}
 use borrow.Author.Needs.{needs}
 use Rattle.wave.specs.Wave.{fromAbove}

@@ -1,4 +1,4 @@
--- `wave::from_below` meets its contract, by that of `magnitude`. Assumes nothing.
+-- The friction term takes |Q| from `magnitude`; the sums and products are those of the equation, in its order. Assumes nothing.
 use borrow.Author.Needs.{needs}
 use Rattle.wave.specs.Wave.{fromBelow}
 use Rattle.wave.proofs.from_below.Statement.{statement}

@@ -1,4 +1,4 @@
--- `wave::infinity` meets its contract, by computation. Assumes nothing.
+-- The pattern 0x7ff0000000000000 is no NaN's, and its value is plus infinity, by computation. Assumes nothing.
 use mathlib.Core.Path.{refl}
 use lib.Ieee.{ofBits, nanBits}
 use Rattle.wave.proofs.infinity.Statement.{statement}

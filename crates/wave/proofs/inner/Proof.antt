@@ -1,4 +1,4 @@
--- `wave::inner` meets its contract: the definition is what the code computes. Assumes nothing.
+-- The code does the sums and quotients of the definition, in its order. Assumes nothing.
 use mathlib.Core.Path.{refl}
 use Rattle.wave.specs.Wave.{inner}
 use Rattle.wave.proofs.inner.Statement.{statement}

@@ -1,4 +1,5 @@
--- `wave::lift_flow` meets its contract, at each return by the tests that lead there. Assumes nothing.
+-- Nothing flows where y is not above zero; else the root is taken where its argument is finite, and only there: the tests are those of the definition.
+-- Assumes nothing.
 use mathlib.Core.Path.{refl, sym, _∙_}
 use borrow.Author.Needs.{needs}
 use Rattle.wave.specs.Nodes.{rooted, pumpArgument, liftFlow}

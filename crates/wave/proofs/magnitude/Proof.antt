@@ -1,4 +1,4 @@
--- `wave::magnitude` meets its contract, in each branch by its test. Assumes nothing.
+-- |x| is -x where x is below zero, else x: the code's one test. Assumes nothing.
 use Rattle.wave.specs.Wave.{magnitude}
 use Rattle.wave.proofs.magnitude.Statement.{statement}
 use Rattle.wave.proofs.magnitude.Tie as tie

@@ -1,4 +1,5 @@
--- `wave::node_head` meets its contract, in each arm of its match by the callees' contracts. Assumes nothing.
+-- Each kind has its own head, from its sums and its discharge, and each is judged: an arm of the match is the definition's clause for that kind. Assumes
+-- nothing.
 use borrow.Author.Needs.{needs}
 use Rattle.wave.specs.Nodes.{nodeHead}
 use Rattle.wave.proofs.node_head.Statement.{statement}

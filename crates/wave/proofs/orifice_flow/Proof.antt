@@ -1,4 +1,5 @@
--- `wave::orifice_flow` meets its contract, at each return by the tests that lead there. Assumes nothing.
+-- Nothing flows where w is zero; else the root is taken where its argument is finite, and only there, and q has the sign of y: the tests are those of the
+-- definition. Assumes nothing.
 use mathlib.Core.Path.{sym, _∙_}
 use borrow.Author.Needs.{needs}
 use Rattle.wave.specs.Nodes.{rooted, orificeArgument, orificeRate, orificeFlow}

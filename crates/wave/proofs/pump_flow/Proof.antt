@@ -1,4 +1,4 @@
--- `wave::pump_flow` meets its contract, by that of `lift_flow`. Assumes nothing.
+-- y is a pump's, and q is that of a lift by it. Assumes nothing.
 use borrow.Author.Needs.{needs}
 use Rattle.wave.specs.Nodes.{pumpFlow, pumpH, pumpY}
 use Rattle.wave.proofs.pump_flow.Statement.{statement}

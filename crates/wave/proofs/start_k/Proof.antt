@@ -1,4 +1,4 @@
--- `wave::start_k` meets its contract, by that of `from_below`. Assumes nothing.
+-- K at a start is CM with its sign changed. Assumes nothing.
 use borrow.Author.Needs.{needs}
 use Rattle.wave.specs.Wave.{startK}
 use Rattle.wave.proofs.start_k.Statement.{statement}

@@ -1,4 +1,4 @@
--- `wave::valve_flow` meets its contract, by that of `orifice_flow`. Assumes nothing.
+-- w and y are a valve's, and q is that of an opening by them. Assumes nothing.
 use borrow.Author.Needs.{needs}
 use Rattle.wave.specs.Nodes.{valveFlow, valveW, valveY}
 use Rattle.wave.proofs.valve_flow.Statement.{statement}

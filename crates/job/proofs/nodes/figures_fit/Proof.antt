@@ -1,7 +1,6 @@
--- `job::nodes::figures_fit` meets its contract: each entry passed has a yes. Assumes nothing.
+-- `job::nodes::figures_fit` meets its contract: a turn asks question 11 of one node and stops at the first no, so that those passed have a yes each. Assumes nothing.
 use Prim.Native.Nat.{_-_}
 use native.Mathlib.Omega.{arith}
-use borrow.Author.Tests.{not-true, not-false}
 use Rattle.loops.proofs.All.{Passing, passing-none, passing-step, passing-stop, passing-done}
 use Rattle.job.specs.Questions.{figureFits, figuresFit}
 use borrow.Author.Needs.{needs}
@@ -9,35 +8,22 @@ use Rattle.job.proofs.nodes.figures_fit.Statement.{statement}
 use Rattle.job.proofs.nodes.figures_fit.Tie as tie
 
 abbrev Inv-loop : tie.InvT-loop
-Inv-loop nodes n y₀ y = Passing (figureFits nodes) n y
+Inv-loop nodes n node₀ node = Passing (figureFits nodes) n node
 
 abbrev μ-loop : tie.MeasureT-loop
-μ-loop nodes n y₀ y = n - y
-
-loop-holds : tie.Need-loop-holds Inv-loop μ-loop
-loop-holds c = passing-none _
-
-returns : tie.Need-returns Inv-loop μ-loop
-unfolding figuresFit
-returns c = passing-stop _ (c .before .before .loop-test .taken) (c .before .figure-fits .ensures) (not-true _ (c .if1 .taken))
-
-loop-again : tie.Need-loop-again Inv-loop μ-loop
-loop-again c = passing-step _ (c .before .before .before .loop .inv) (omega arith) (c .before .figure-fits .ensures) (not-false _ (c .if1 .left))
-
-returns-2 : tie.Need-returns-2 Inv-loop μ-loop
-unfolding figuresFit
-returns-2 c = passing-done _ (c .before .loop .inv) (c .loop-test .left)
+μ-loop nodes n node₀ node = n - node
 
 pub figures-fit-spec : {M : Type 1} → statement M
+unfolding figuresFit
 figures-fit-spec =
     tie.close
     (tie.spec
     Inv-loop
     μ-loop
-    loop-holds
+    (λ c. passing-none _)
     (λ c κs. search needs)
-    returns
+    (λ c. passing-stop _ (c .before .before .loop-test .taken) (c .before .figure-fits .ensures) (c .if1 .taken))
     (λ c. search needs)
     (λ c. search needs)
-    loop-again
-    returns-2)
+    (λ c. passing-step _ (c .before .before .before .loop .inv) (omega arith) (c .before .figure-fits .ensures) (c .if1 .left))
+    (λ c. passing-done _ (c .before .loop .inv) (c .loop-test .left)))

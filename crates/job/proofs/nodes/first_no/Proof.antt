@@ -1,4 +1,4 @@
--- `job::nodes::first_no` meets its contract: at each return the questions before it have a yes. Assumes nothing.
+-- `job::nodes::first_no` meets its contract: questions 10 to 12 are asked of the tables that the file has, and the first no decides, as `firstNo` goes. Assumes nothing.
 use Rattle.loops.proofs.Tests.{is-yes, is-no}
 use Rattle.job.specs.Questions.{nodeQuestions, firstNo}
 use borrow.Author.Needs.{needs}
@@ -8,53 +8,30 @@ use Rattle.job.proofs.nodes.first_no.Tie as tie
 returns : tie.Need-returns
 unfolding nodeQuestions firstNo
 returns c =
-    let t = c .before .before in
-    rw (
-      ← t .before .table .ensures,
-      ← t .table2 .ensures,
-      is-no (c .before .kinds-fit .ensures) (c .if1 .taken),
-    )
+    let tables : tie.After-nodes = c .before .before in
+    rw (← tables .nodes .ensures, is-no (c .before .kinds-fit .ensures) (c .if1 .taken))
 
 returns-2 : tie.Need-returns-2
 unfolding nodeQuestions firstNo
 returns-2 c =
-    let q1 = c .before .before in
-    let t = q1 .before .before in
-    rw (
-      ← t .before .table .ensures,
-      ← t .table2 .ensures,
-      is-yes (q1 .before .kinds-fit .ensures) (q1 .if1 .left),
-      is-no (c .before .figures-fit .ensures) (c .if2 .taken),
-    )
+    let kinds : tie.Else1 = c .before .before in
+    let tables : tie.After-nodes = kinds .before .before in
+    rw (← tables .nodes .ensures, is-yes (kinds .before .kinds-fit .ensures) (kinds .if1 .left), is-no (c .before .figures-fit .ensures) (c .if2 .taken))
 
 returns-3 : tie.Need-returns-3
 unfolding nodeQuestions firstNo
 returns-3 c =
-    let q2 = c .before .before in
-    let q1 = q2 .before .before in
-    let t = q1 .before .before in
+    let figures : tie.Else2 = c .before .before in
+    let kinds : tie.Else1 = figures .before .before in
+    let tables : tie.After-nodes = kinds .before .before in
     rw (
-      ← t .before .table .ensures,
-      ← t .table2 .ensures,
-      is-yes (q1 .before .kinds-fit .ensures) (q1 .if1 .left),
-      is-yes (q2 .before .figures-fit .ensures) (q2 .if2 .left),
-      is-no (c .before .nodes-met .ensures) (c .if3 .taken),
+      ← tables .before .pipes .ensures,
+      ← tables .nodes .ensures,
+      is-yes (kinds .before .kinds-fit .ensures) (kinds .if1 .left),
+      is-yes (figures .before .figures-fit .ensures) (figures .if2 .left),
+      ← c .before .nodes-met .ensures,
     )
-
-returns-4 : tie.Need-returns-4
-unfolding nodeQuestions firstNo
-returns-4 c =
-    let q3 = c in
-    let q2 = q3 .before .before in
-    let q1 = q2 .before .before in
-    let t = q1 .before .before in
-    rw (
-      ← t .before .table .ensures,
-      ← t .table2 .ensures,
-      is-yes (q1 .before .kinds-fit .ensures) (q1 .if1 .left),
-      is-yes (q2 .before .figures-fit .ensures) (q2 .if2 .left),
-      is-yes (q3 .before .nodes-met .ensures) (q3 .if3 .left),
-    )
+    (c .decide .ensures)
 
 pub first-no-spec : {M : Type 1} → statement M
 first-no-spec =
@@ -67,5 +44,5 @@ first-no-spec =
     (λ c κs. search needs)
     returns-2
     (λ c κs. search needs)
-    returns-3
-    returns-4)
+    (λ c κs. search needs)
+    returns-3)

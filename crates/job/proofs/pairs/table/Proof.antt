@@ -1,38 +1,32 @@
--- `job::pairs::table` meets its contract: the table lies within the file. Assumes nothing.
+-- `job::pairs::table` meets its contract: where questions 1 to 4 have a yes, pair k stands in the file and its table lies within it. Assumes nothing.
 use Prim.Native.Nat.{_+_, _≤_}
 use native.Mathlib.Nat.{add-sub-cancel-left}
 use native.Mathlib.Omega.{arith}
 use lib.ListN.{length}
 use denote.Ref.{now}
-use Rattle.job.proofs.Tables.{pairs-right, size-least, table-ends, table-is}
+use Rattle.job.proofs.TableBounds.{pairs-right, size-least, table-ends, table-is}
 use borrow.Author.Needs.{needs}
 use Rattle.job.proofs.pairs.table.Statement.{statement}
 use Rattle.job.proofs.pairs.table.Tie as tie
 
-offset-of-requires : tie.Need-offset-of-requires
-offset-of-requires c κs = omega (arith, size-least _ (pairs-right _ (c .before .pre .0) .size))
-
-length-of-requires : tie.Need-length-of-requires
-length-of-requires c κs = omega (arith, size-least _ (pairs-right _ (c .before .before .pre .0) .size))
-
 part-result-end : tie.Need-part-result-end
 part-result-end c =
-    let s = c .before .before .before in
-    let ends : c .before .offset-of .result + c .length-of .result ≤ length (now (s .args .job)) =
-    rw (c .before .offset-of .ensures .0, c .length-of .ensures .0) (table-ends _ (pairs-right _ (s .pre .0)) _ (s .pre .1)) in
+    let start : tie.Start = c .before .before .before in
+    let ends : c .before .offset-of .result + c .length-of .result ≤ length (now (start .args .job)) =
+    rw (c .before .offset-of .ensures .0, c .length-of .ensures .0) (table-ends _ (pairs-right _ (start .pre .0)) _ (start .pre .1)) in
     search needs
 
 returns : tie.Need-returns
 returns c =
-    let s = c .before .before .before .before in
-    rw (add-sub-cancel-left, c .before .before .offset-of .ensures .0, c .before .length-of .ensures .0, table-is _ (pairs-right _ (s .pre .0)) _ (s .pre .1))
+    let start : tie.Start = c .before .before .before .before in
+    rw (add-sub-cancel-left, c .before .before .offset-of .ensures .0, c .before .length-of .ensures .0, table-is _ (pairs-right _ (start .pre .0)) _ (start .pre .1))
 
 pub table-spec : {M : Type 1} → statement M
 table-spec =
     tie.close
     (tie.spec
-    offset-of-requires
-    length-of-requires
+    (λ c κs. omega (arith, size-least _ (pairs-right _ (c .before .pre .0) .size)))
+    (λ c κs. omega (arith, size-least _ (pairs-right _ (c .before .before .pre .0) .size)))
     (λ c. search needs)
     (λ c. search needs)
     (λ c. search needs)

@@ -1,4 +1,4 @@
--- `job::pipes::constant_fits` meets its contract. Assumes nothing.
+-- `job::pipes::constant_fits` meets its contract: S is compared only where it is finite, and one that is not finite is a no. Assumes nothing.
 use mathlib.Core.Path.{sym, _∙_}
 use Rattle.fields.specs.Finite.{finiteAt}
 use Rattle.job.specs.Questions.{constantFits}
@@ -6,25 +6,18 @@ use borrow.Author.Needs.{needs}
 use Rattle.job.proofs.pipes.constant_fits.Statement.{statement}
 use Rattle.job.proofs.pipes.constant_fits.Tie as tie
 
-constant-requires : tie.Need-constant-requires
+s-of-requires : tie.Need-s-of-requires
 unfolding finiteAt
-constant-requires c κs = (search needs, sym (c .before .finite-at .ensures) ∙ c .if1 .taken)
-
-returns : tie.Need-returns
-unfolding constantFits finiteAt
-returns c = rw (c .constant .ensures, sym (c .before .before .finite-at .ensures) ∙ c .before .if1 .taken)
-
-returns-2 : tie.Need-returns-2
-unfolding constantFits finiteAt
-returns-2 c = rw (sym (c .before .finite-at .ensures) ∙ c .if1 .left)
+s-of-requires c κs = (search needs, sym (c .before .finite-at .ensures) ∙ c .if1 .taken)
 
 pub constant-fits-spec : {M : Type 1} → statement M
+unfolding constantFits finiteAt
 constant-fits-spec =
     tie.close
     (tie.spec
     (λ c. search needs)
     (λ c. search needs)
     (λ c κs. search needs)
-    constant-requires
-    returns
-    returns-2)
+    s-of-requires
+    (λ c. rw (c .s-of .ensures, sym (c .before .before .finite-at .ensures) ∙ c .before .if1 .taken))
+    (λ c. rw (sym (c .before .finite-at .ensures) ∙ c .if1 .left)))

@@ -1,7 +1,6 @@
--- `job::pipes::constants_fit` meets its contract: each entry passed has a yes. Assumes nothing.
+-- `job::pipes::constants_fit` meets its contract: a turn asks question 9 of one pipe and stops at the first no, so that those passed have a yes each. Assumes nothing.
 use Prim.Native.Nat.{_-_}
 use native.Mathlib.Omega.{arith}
-use borrow.Author.Tests.{not-true, not-false}
 use Rattle.loops.proofs.All.{Passing, passing-none, passing-step, passing-stop, passing-done}
 use Rattle.job.specs.Format.{pipeIn}
 use Rattle.job.specs.Questions.{constantFits, constantsFit}
@@ -15,30 +14,17 @@ Inv-loop pipes n p₀ p = Passing (λ p. constantFits (pipeIn pipes p)) n p
 abbrev μ-loop : tie.MeasureT-loop
 μ-loop pipes n p₀ p = n - p
 
-loop-holds : tie.Need-loop-holds Inv-loop μ-loop
-loop-holds c = passing-none _
-
-returns : tie.Need-returns Inv-loop μ-loop
-unfolding constantsFit
-returns c = passing-stop _ (c .before .before .loop-test .taken) (c .before .constant-fits .ensures) (not-true _ (c .if1 .taken))
-
-loop-again : tie.Need-loop-again Inv-loop μ-loop
-loop-again c = passing-step _ (c .before .before .before .loop .inv) (omega arith) (c .before .constant-fits .ensures) (not-false _ (c .if1 .left))
-
-returns-2 : tie.Need-returns-2 Inv-loop μ-loop
-unfolding constantsFit
-returns-2 c = passing-done _ (c .before .loop .inv) (c .loop-test .left)
-
 pub constants-fit-spec : {M : Type 1} → statement M
+unfolding constantsFit
 constants-fit-spec =
     tie.close
     (tie.spec
     Inv-loop
     μ-loop
-    loop-holds
+    (λ c. passing-none _)
     (λ c κs. search needs)
-    returns
+    (λ c. passing-stop _ (c .before .before .loop-test .taken) (c .before .constant-fits .ensures) (c .if1 .taken))
     (λ c. search needs)
     (λ c. search needs)
-    loop-again
-    returns-2)
+    (λ c. passing-step _ (c .before .before .before .loop .inv) (omega arith) (c .before .constant-fits .ensures) (c .if1 .left))
+    (λ c. passing-done _ (c .before .loop .inv) (c .loop-test .left)))

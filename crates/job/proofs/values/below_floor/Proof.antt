@@ -1,12 +1,14 @@
--- `job::values::below_floor` meets its contract: a turn adds 1 for a head below its floor. Assumes nothing.
+-- `job::values::below_floor` meets its contract: each section is finite, so that its head may be compared, and a turn adds 1 for a head below its floor. Assumes nothing.
 use Prim.Native.Nat.{_-_}
 use native.Mathlib.Omega.{arith}
 use denote.Ref.{now}
+use Rattle.fields.specs.Finite.{finiteAt}
 use Rattle.loops.proofs.All.{all-at}
 use Rattle.loops.proofs.Counting.{Counting, counting-none, counting-more, counting-done}
 use Rattle.job.specs.Format.{sectionIn}
 use Rattle.job.specs.Questions.{finiteSection}
-use Rattle.job.specs.Asked.{notBelowFloor}
+use Rattle.job.specs.QuestionParts.{notBelowFloor}
+use Rattle.job.proofs.SectionLaws.{FiniteSection, finite-section}
 use borrow.Author.Needs.{needs}
 use Rattle.job.proofs.values.below_floor.Statement.{statement}
 use Rattle.job.proofs.values.below_floor.Tie as tie
@@ -17,17 +19,27 @@ Inv-loop initial n low₀ s₀ low s = Counting (λ s. notBelowFloor (sectionIn 
 abbrev μ-loop : tie.MeasureT-loop
 μ-loop initial n low₀ s₀ low s = n - s
 
--- each section is finite
-below-floor-at-requires : tie.Need-below-floor-at-requires Inv-loop μ-loop
-below-floor-at-requires c κs =
-    let here : tie.At-loop Inv-loop μ-loop = c .before in
-    let start : tie.Start Inv-loop μ-loop = here .before .before in
-    (search needs, all-at (λ s. finiteSection (sectionIn (now (start .args .initial)) s)) (here .loop .s) _ (start .pre) (omega arith))
+abbrev start : tie.In-loop Inv-loop μ-loop → tie.Start Inv-loop μ-loop
+start c = c .before .before .before
+
+-- the section of a turn
+section-here : (c : tie.In-loop Inv-loop μ-loop) → FiniteSection (sectionIn (now (start c .args .initial)) (c .before .loop .s))
+section-here c =
+    finite-section _ (all-at (λ s. finiteSection (sectionIn (now (start c .args .initial)) s)) (c .before .loop .s) _ (start c .pre) (omega arith))
+
+f64-at-requires : tie.Need-f64-at-requires Inv-loop μ-loop
+unfolding finiteAt
+f64-at-requires c κs = (search needs, section-here c .head)
+
+f64-at-requires-2 : tie.Need-f64-at-requires-2 Inv-loop μ-loop
+unfolding finiteAt
+f64-at-requires-2 c κs = (search needs, section-here (c .before) .floor)
 
 loop-again : tie.Need-loop-again Inv-loop μ-loop
 loop-again c =
-    let here : tie.At-loop Inv-loop μ-loop = c .before .before in
-    counting-more _ (here .loop .inv) (omega arith) (c .below-floor-at .ensures .1)
+    let turn : tie.In-loop Inv-loop μ-loop = c .before .before .before in
+    let fits = rw (c .before .before .f64-at .ensures, c .before .f64-at2 .ensures) at (c .one-unless .ensures .1) in
+    counting-more _ (turn .before .loop .inv) (omega arith) fits
 
 pub below-floor-spec : {M : Type 1} → statement M
 below-floor-spec =
@@ -36,7 +48,11 @@ below-floor-spec =
     Inv-loop
     μ-loop
     (λ c. counting-none _)
-    below-floor-at-requires
+    (λ c. search needs)
+    f64-at-requires
+    (λ c. search needs)
+    f64-at-requires-2
+    (λ c κs. search needs)
     (λ c. search needs)
     (λ c. search needs)
     (λ c. search needs)

@@ -1,4 +1,5 @@
--- `job::values::entry_count` meets its contract: the invariant has the place of node y's schedule. Assumes nothing.
+-- `job::values::entry_count` meets its contract: the invariant is that `place` is the node's, so that past the last node it is the count. A node has fewer
+-- than 256 entries, so that no sum wraps. Assumes nothing.
 use mathlib.Core.Path.{_≡_, refl}
 use Prim.Native.Nat.{_≤_, _*_, _-_}
 use native.Mathlib.Omega.{arith}
@@ -9,33 +10,27 @@ use Rattle.job.proofs.values.entry_count.Statement.{statement}
 use Rattle.job.proofs.values.entry_count.Tie as tie
 
 abbrev Inv-loop : tie.InvT-loop
-Inv-loop nodes n place₀ y₀ place y = (y ≤ n) × (place ≡ placeOf nodes y) × (place ≤ y * 256)
+Inv-loop nodes n place₀ node₀ place node = (node ≤ n) × (place ≡ placeOf nodes node) × (place ≤ node * 256)
 
 abbrev μ-loop : tie.MeasureT-loop
-μ-loop nodes n place₀ y₀ place y = n - y
-
-loop-holds : tie.Need-loop-holds Inv-loop μ-loop
-unfolding placeOf
-loop-holds c = (search needs, refl, search needs)
-
-loop-again : tie.Need-loop-again Inv-loop μ-loop
-loop-again c = (search needs, c .next-place .ensures .0, c .next-place .ensures .1)
+μ-loop nodes n place₀ node₀ place node = n - node
 
 returns : tie.Need-returns Inv-loop μ-loop
 returns c =
-    let at = c .before in
-    let e : nodeCount (now (at .before .before .args .nodes)) ≡ at .loop .y = omega arith in
-    (rw e (at .loop .inv .1), search needs)
+    let here : tie.At-loop Inv-loop μ-loop = c .before in
+    let last : nodeCount (now (here .before .before .args .nodes)) ≡ here .loop .node = omega arith in
+    (rw last (here .loop .inv .1), search needs)
 
 pub entry-count-spec : {M : Type 1} → statement M
+unfolding placeOf
 entry-count-spec =
     tie.close
     (tie.spec
     Inv-loop
     μ-loop
-    loop-holds
+    (λ c. (search needs, refl, search needs))
     (λ c κs. search needs)
     (λ c. search needs)
     (λ c. search needs)
-    loop-again
+    (λ c. (search needs, c .next-place .ensures .0, c .next-place .ensures .1))
     returns)

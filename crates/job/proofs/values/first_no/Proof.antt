@@ -1,65 +1,61 @@
--- `job::values::first_no` meets its contract: at each return the questions before it have a yes. Assumes nothing.
-use mathlib.Core.Path.{_≡_}
+-- `job::values::first_no` meets its contract: questions 13 to 15 are asked of the tables that the file has, and the first no decides, as `firstNo` goes. Assumes nothing.
+use Prim.Native.Nat.{_≤_}
 use native.Mathlib.Omega.{arith}
+use lib.ListN.{length}
 use denote.Ref.{now}
-use Rattle.job.specs.Format.{pipeTable, nodeTable, frictionTable, initialTable, scheduleTable}
-use Rattle.job.specs.Questions.{frictionRight, initialRight, schedulesRight, valueQuestions, firstNo}
 use Rattle.loops.proofs.Tests.{is-yes, is-no}
-use Rattle.job.proofs.Tables.{pairs-right, table-short}
+use Rattle.job.specs.Questions.{valueQuestions, firstNo}
+use Rattle.job.proofs.TableBounds.{pairs-right, table-short}
 use borrow.Author.Needs.{needs}
 use Rattle.job.proofs.values.first_no.Statement.{statement}
 use Rattle.job.proofs.values.first_no.Tie as tie
 
--- what each question asks of the file's tables
-asked-13 : (c : tie.After-friction-right) → let job = now (c .before .before .before .before .before .args .job) in c .friction-right .result ≡ frictionRight (pipeTable job) (frictionTable job)
-asked-13 c = rw (← c .before .before .before .table .ensures, ← c .before .table3 .ensures) (c .friction-right .ensures)
+-- both tables that are counted are as short as a file
+short-pipes : (c : tie.After-pipes) → length (now (c .pipes .result)) ≤ 32768
+short-pipes c = rw (c .pipes .ensures) (table-short _ (pairs-right _ (c .before .before .pre)) 0 (omega arith))
 
-asked-14 :
-    (c : tie.After-initial-right)
-    → let job = now (c .before .before .before .before .before .before .before .before .args .job) in c .initial-right .result ≡ initialRight (pipeTable job) (initialTable job)
-asked-14 c = rw (← c .before .before .before .before .before .before .table .ensures, ← c .before .table4 .ensures) (c .initial-right .ensures)
+short-nodes : (c : tie.After-nodes) → length (now (c .nodes .result)) ≤ 32768
+short-nodes c = rw (c .nodes .ensures) (table-short _ (pairs-right _ (c .before .before .before .pre)) 1 (omega arith))
 
-asked-15 :
-    (c : tie.After-schedules-right)
-    → let job = now (c .before .before .before .before .before .before .before .before .before .before .before .args .job) in c .schedules-right .result ≡ schedulesRight (nodeTable job) (scheduleTable job)
-asked-15 c = rw (← c .before .before .before .before .before .before .before .before .table2 .ensures, ← c .before .table5 .ensures) (c .schedules-right .ensures)
-
-friction-right-requires : tie.Need-friction-right-requires
-friction-right-requires c κs =
-    let t = c .before .before in
-    rw (t .table .ensures) (table-short _ (pairs-right _ (t .before .before .pre)) 0 (omega arith))
+abbrev pipes : tie.After-schedules → tie.After-pipes
+pipes c = c .before .before .before .before
 
 returns : tie.Need-returns
 unfolding valueQuestions firstNo
-returns c = rw (is-no (asked-13 (c .before)) (c .if1 .taken))
-
-initial-right-requires : tie.Need-initial-right-requires
-initial-right-requires c κs =
-    let t = c .before .before .before .before .before in
-    rw (t .table .ensures) (table-short _ (pairs-right _ (t .before .before .pre)) 0 (omega arith))
+returns c =
+    let tables : tie.After-schedules = c .before .before in
+    rw (← pipes tables .pipes .ensures, ← tables .before .before .friction .ensures, is-no (c .before .friction-right .ensures) (c .if1 .taken))
 
 returns-2 : tie.Need-returns-2
 unfolding valueQuestions firstNo
-returns-2 c = let q13 = c .before .before .before in rw (is-yes (asked-13 (q13 .before)) (q13 .if1 .left), is-no (asked-14 (c .before)) (c .if2 .taken))
-
-schedules-right-requires : tie.Need-schedules-right-requires
-schedules-right-requires c κs =
-    let t = c .before .before .before .before .before .before .before in
-    rw (t .table2 .ensures) (table-short _ (pairs-right _ (t .before .before .before .pre)) 1 (omega arith))
+returns-2 c =
+    let friction : tie.Else1 = c .before .before in
+    let tables : tie.After-schedules = friction .before .before in
+    rw (
+      ← pipes tables .pipes .ensures,
+      ← tables .before .before .friction .ensures,
+      ← tables .before .initial .ensures,
+      is-yes (friction .before .friction-right .ensures) (friction .if1 .left),
+      is-no (c .before .initial-right .ensures) (c .if2 .taken),
+    )
 
 returns-3 : tie.Need-returns-3
 unfolding valueQuestions firstNo
 returns-3 c =
-    let q14 = c .before .before .before in
-    let q13 = q14 .before .before .before in
-    rw (is-yes (asked-13 (q13 .before)) (q13 .if1 .left), is-yes (asked-14 (q14 .before)) (q14 .if2 .left), is-no (asked-15 (c .before)) (c .if3 .taken))
-
-returns-4 : tie.Need-returns-4
-unfolding valueQuestions firstNo
-returns-4 c =
-    let q14 = c .before .before .before in
-    let q13 = q14 .before .before .before in
-    rw (is-yes (asked-13 (q13 .before)) (q13 .if1 .left), is-yes (asked-14 (q14 .before)) (q14 .if2 .left), is-yes (asked-15 (c .before)) (c .if3 .left))
+    let initial : tie.Else2 = c .before .before in
+    let friction : tie.Else1 = initial .before .before in
+    let tables : tie.After-schedules = friction .before .before in
+    rw (
+      ← pipes tables .pipes .ensures,
+      ← tables .before .before .before .nodes .ensures,
+      ← tables .before .before .friction .ensures,
+      ← tables .before .initial .ensures,
+      ← tables .schedules .ensures,
+      is-yes (friction .before .friction-right .ensures) (friction .if1 .left),
+      is-yes (initial .before .initial-right .ensures) (initial .if2 .left),
+      ← c .before .schedules-right .ensures,
+    )
+    (c .decide .ensures)
 
 pub first-no-spec : {M : Type 1} → statement M
 first-no-spec =
@@ -68,12 +64,12 @@ first-no-spec =
     (λ c κs. search needs)
     (λ c κs. search needs)
     (λ c κs. search needs)
-    friction-right-requires
+    (λ c κs. search needs)
+    (λ c κs. search needs)
+    (λ c κs. short-pipes (pipes c))
     returns
-    (λ c κs. search needs)
-    initial-right-requires
+    (λ c κs. short-pipes (pipes (c .before .before)))
     returns-2
+    (λ c κs. let tables : tie.After-schedules = c .before .before .before .before in short-nodes (tables .before .before .before))
     (λ c κs. search needs)
-    schedules-right-requires
-    returns-3
-    returns-4)
+    returns-3)

@@ -1,12 +1,9 @@
--- `job::values::initial_right` meets its contract. Assumes nothing.
+-- `job::values::initial_right` meets its contract: the length is asked of the sections of all pipes, and the rest of each section. Assumes nothing.
 use Rattle.job.specs.Questions.{initialRight}
 use borrow.Author.Needs.{needs}
 use Rattle.job.proofs.values.initial_right.Statement.{statement}
 use Rattle.job.proofs.values.initial_right.Tie as tie
 
-returns : tie.Need-returns
-unfolding initialRight
-returns c = cc
-
 pub initial-right-spec : {M : Type 1} → statement M
-initial-right-spec = tie.close (tie.spec (λ c κs. search needs) (λ c. search needs) (λ c κs. search needs) returns)
+unfolding initialRight
+initial-right-spec = tie.close (tie.spec (λ c κs. search needs) (λ c. search needs) (λ c κs. search needs) (λ c. cc))

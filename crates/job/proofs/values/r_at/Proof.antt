@@ -1,4 +1,4 @@
--- `job::values::r_at` meets its contract. Assumes nothing.
+-- `job::values::r_at` meets its contract: question 13's yes says that R is finite, so that it may be read. Assumes nothing.
 use mathlib.Core.Path.{sym, _∙_}
 use Rattle.fields.specs.Finite.{finiteAt}
 use Rattle.job.proofs.SectionLaws.{r-finite, r-is}
@@ -8,10 +8,7 @@ use Rattle.job.proofs.values.r_at.Tie as tie
 
 f64-at-requires : tie.Need-f64-at-requires
 unfolding finiteAt
-f64-at-requires c κs = let s = c .before in (search needs, r-finite _ (s .pre .0) _ (s .pre .1))
-
-returns : tie.Need-returns
-returns c = let s = c .before .before in c .f64-at .ensures ∙ sym (r-is _ _ (s .pre .1))
+f64-at-requires c κs = let start = c .before in (search needs, r-finite _ (start .pre .0) _ (start .pre .1))
 
 pub r-at-spec : {M : Type 1} → statement M
-r-at-spec = tie.close (tie.spec (λ c. search needs) f64-at-requires returns)
+r-at-spec = tie.close (tie.spec (λ c. search needs) f64-at-requires (λ c. c .f64-at .ensures ∙ sym (r-is _ _ (c .before .before .pre .1))))

@@ -1,9 +1,7 @@
--- `job::values::schedule_fits` meets its contract: each entry passed has a yes. Assumes nothing.
-use Prim.Native.Nat.{_-_}
+-- `job::values::schedule_fits` meets its contract: a turn asks question 15 of one entry and stops at the first no, so that those passed have a yes each. Assumes nothing.
+use Prim.Native.Nat.{_-_, _+_}
 use native.Mathlib.Omega.{arith}
-use borrow.Author.Tests.{not-true, not-false}
 use Rattle.loops.proofs.All.{Passing, passing-none, passing-step, passing-stop, passing-done}
-use Prim.Native.Nat.{_+_}
 use Rattle.job.specs.Format.{entryIn}
 use Rattle.job.specs.Questions.{entryFits}
 use borrow.Author.Needs.{needs}
@@ -16,15 +14,7 @@ Inv-loop schedules kind place count i₀ i = Passing (λ i. entryFits kind (entr
 abbrev μ-loop : tie.MeasureT-loop
 μ-loop schedules kind place count i₀ i = count - i
 
-loop-holds : tie.Need-loop-holds Inv-loop μ-loop
-loop-holds c = passing-none _
-
-returns : tie.Need-returns Inv-loop μ-loop
-returns c = passing-stop _ (c .before .before .loop-test .taken) (c .before .entry-fits .ensures) (not-true _ (c .if1 .taken))
-
-loop-again : tie.Need-loop-again Inv-loop μ-loop
-loop-again c = passing-step _ (c .before .before .before .loop .inv) (omega arith) (c .before .entry-fits .ensures) (not-false _ (c .if1 .left))
-
+-- past the last entry every entry has been asked
 returns-2 : tie.Need-returns-2 Inv-loop μ-loop
 returns-2 c = passing-done _ (c .before .loop .inv) (c .loop-test .left)
 
@@ -34,11 +24,11 @@ schedule-fits-spec =
     (tie.spec
     Inv-loop
     μ-loop
-    loop-holds
+    (λ c. passing-none _)
     (λ c. search needs)
     (λ c κs. search needs)
-    returns
+    (λ c. passing-stop _ (c .before .before .loop-test .taken) (c .before .entry-fits .ensures) (c .if1 .taken))
     (λ c. search needs)
     (λ c. search needs)
-    loop-again
+    (λ c. passing-step _ (c .before .before .before .loop .inv) (omega arith) (c .before .entry-fits .ensures) (c .if1 .left))
     returns-2)

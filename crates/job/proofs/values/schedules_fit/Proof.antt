@@ -1,10 +1,10 @@
--- `job::values::schedules_fit` meets its contract: the invariant has the place of node y's schedule. Assumes nothing.
+-- `job::values::schedules_fit` meets its contract: a turn asks question 15 of one node's entries and stops at the first no. The invariant has the place of the
+-- node's schedule, which ends no later than the last node's, and so within the table. Assumes nothing.
 use mathlib.Core.Path.{_≡_, refl}
 use Prim.Native.Nat.{_+_, _*_, _-_, _≤_}
 use lib.ListN.{length}
 use denote.Ref.{now}
 use native.Mathlib.Omega.{arith}
-use borrow.Author.Tests.{not-true, not-false}
 use Rattle.loops.proofs.All.{Passing, passing-none, passing-step, passing-stop, passing-done}
 use Rattle.job.specs.Format.{nodeCount, placeOf}
 use Rattle.job.specs.Questions.{scheduleFits, schedulesFit}
@@ -14,72 +14,62 @@ use Rattle.job.proofs.values.schedules_fit.Statement.{statement}
 use Rattle.job.proofs.values.schedules_fit.Tie as tie
 
 abbrev Inv-loop : tie.InvT-loop
-Inv-loop nodes schedules n place₀ y₀ place y = Passing (scheduleFits nodes schedules) n y × (place ≡ placeOf nodes y) × (place ≤ y * 256)
+Inv-loop nodes schedules n place₀ node₀ place node =
+    Passing (scheduleFits nodes schedules) n node × (place ≡ placeOf nodes node) × (place ≤ node * 256)
 
 abbrev μ-loop : tie.MeasureT-loop
-μ-loop nodes schedules n place₀ y₀ place y = n - y
+μ-loop nodes schedules n place₀ node₀ place node = n - node
 
--- the entries of node y end no later than those of the last node
+abbrev start : tie.At-loop Inv-loop μ-loop → tie.Start Inv-loop μ-loop
+start c = c .before .before .before
+
+abbrev turn : tie.After-schedule-fits Inv-loop μ-loop → tie.At-loop Inv-loop μ-loop
+turn c = c .before .before .before .before
+
 within :
     (c : tie.After-schedule-count Inv-loop μ-loop)
-    → (c .before .before .loop .place + c .schedule-count .result) * 8 ≤ length (now (c .before .before .before .before .before .args .schedules))
+    → let here = c .before .before in (here .loop .place + c .schedule-count .result) * 8 ≤ length (now (start here .args .schedules))
 within c =
-    let at = c .before .before in
-    let s = at .before .before .before in
-    let y = at .loop .y in
+    let here : tie.At-loop Inv-loop μ-loop = c .before .before in
+    let nodes = now (start here .args .nodes) in
     omega (
       arith,
-      place-rises (now (s .args .nodes)) (y + 1) (nodeCount (now (s .args .nodes))) (omega arith),
-      place-more (now (s .args .nodes)) y,
+      place-rises nodes (here .loop .node + 1) (nodeCount nodes) (omega arith),
+      place-more nodes (here .loop .node),
       c .schedule-count .ensures .0,
-      at .loop .inv .1,
-      s .pre,
+      here .loop .inv .1,
+      start here .pre,
     )
 
 asked :
     (c : tie.After-schedule-fits Inv-loop μ-loop)
-    → c .schedule-fits .result ≡ scheduleFits (now (c .before .before .before .before .before .before .before .args .nodes)) (now (c .before .before .before .before .before .before .before .args .schedules)) (c .before .before .before .before .loop .y)
+    → let tables = start (turn c) .args in c .schedule-fits .result ≡ scheduleFits (now (tables .nodes)) (now (tables .schedules)) (turn c .loop .node)
 unfolding scheduleFits
 asked c =
-    rw (← c .before .kind .ensures .0, ← c .before .before .schedule-count .ensures .0, ← c .before .before .before .before .loop .inv .1) (c .schedule-fits .ensures)
-
-loop-holds : tie.Need-loop-holds Inv-loop μ-loop
-unfolding placeOf
-loop-holds c = (passing-none _, refl, search needs)
-
-schedule-fits-requires : tie.Need-schedule-fits-requires Inv-loop μ-loop
-schedule-fits-requires c κs = within (c .before)
-
-returns : tie.Need-returns Inv-loop μ-loop
-unfolding schedulesFit scheduleFits
-returns c = passing-stop _ (c .before .before .before .before .loop-test .taken) (asked (c .before)) (not-true _ (c .if1 .taken))
+    rw (← c .before .kind .ensures .0, ← c .before .before .schedule-count .ensures .0, ← turn c .loop .inv .1) (c .schedule-fits .ensures)
 
 loop-again : tie.Need-loop-again Inv-loop μ-loop
-unfolding scheduleFits
 loop-again c =
-    let at = c .before .before .before .before .before .before in (
-      passing-step _ (at .loop .inv .0) (omega arith) (asked (c .before .before)) (not-false _ (c .before .if1 .left)),
+    let fits : tie.After-schedule-fits Inv-loop μ-loop = c .before .before in (
+      passing-step _ (turn fits .loop .inv .0) (omega arith) (asked fits) (c .before .if1 .left),
       c .next-place .ensures .0,
       c .next-place .ensures .1,
     )
 
-returns-2 : tie.Need-returns-2 Inv-loop μ-loop
-unfolding schedulesFit
-returns-2 c = passing-done _ (c .before .loop .inv .0) (c .loop-test .left)
-
 pub schedules-fit-spec : {M : Type 1} → statement M
+unfolding schedulesFit placeOf
 schedules-fit-spec =
     tie.close
     (tie.spec
     Inv-loop
     μ-loop
-    loop-holds
+    (λ c. (passing-none _, refl, search needs))
     (λ c κs. search needs)
     (λ c κs. search needs)
-    schedule-fits-requires
-    returns
+    (λ c κs. within (c .before))
+    (λ c. passing-stop _ (c .before .before .before .before .loop-test .taken) (asked (c .before)) (c .if1 .taken))
     (λ c κs. search needs)
     (λ c. search needs)
     (λ c. search needs)
     loop-again
-    returns-2)
+    (λ c. passing-done _ (c .before .loop .inv .0) (c .loop-test .left)))

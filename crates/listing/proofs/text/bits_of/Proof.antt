@@ -1,4 +1,4 @@
--- `listing::text::bits_of` meets its contract: only a NaN differs from itself. Assumes nothing.
+-- `listing::text::bits_of` meets its contract: only a NaN differs from itself, so that the test gives every NaN the one pattern of `toBits`. Assumes nothing.
 use mathlib.Core.Path.{_≡_, sym, _∙_, subst}
 use mathlib.Core.Bool.{true≢false, false, not}
 use borrow.Author.Needs.{needs}

@@ -1,4 +1,4 @@
--- `listing::text::digit_code` meets its contract: the code's table is the definition's. Assumes nothing.
+-- `listing::text::digit_code` meets its contract: the code's table of 16 bytes is the definition's, byte for byte. Assumes nothing.
 use mathlib.Core.Path.{refl}
 use borrow.Author.Needs.{needs}
 use Rattle.listing.proofs.text.digit_code.Statement.{statement}

@@ -1,4 +1,5 @@
--- `listing::text::places_of` meets its contract: each turn takes one digit off and counts it. Assumes nothing.
+-- `listing::text::places_of` meets its contract: a number from 10 on has one digit more than its tenth, so that a turn divides by 10 and counts one; below 10
+-- there is one digit. Assumes nothing.
 use mathlib.Core.Path.{_≡_}
 use Prim.Native.Nat.{_+_, _≤_}
 use native.Mathlib.Omega.{arith}

@@ -1,4 +1,4 @@
--- `listing::text::put_decimal` meets its contract: as many digits as the number has. Assumes nothing.
+-- `listing::text::put_decimal` meets its contract: the digits stored in base 10 are as many as the number has. Assumes nothing.
 use borrow.Author.Needs.{needs}
 use Rattle.listing.proofs.text.put_decimal.Statement.{statement}
 use Rattle.listing.proofs.text.put_decimal.Tie as tie

@@ -1,7 +1,7 @@
--- `listing::text::put_digits` meets its contract: what is stored with what is left to store is always the digits. Assumes nothing.
-use mathlib.Core.Path.{_≡_, refl, sym, ap, _∙_}
-use mathlib.Core.List.{List}
-use Prim.Native.Nat.{ℕ, _+_, _≤_}
+-- `listing::text::put_digits` meets its contract: the digits of what is left, stored in front of those already there, always give the digits of n; a
+-- turn stores the lowest of them and divides it off. Assumes nothing.
+use mathlib.Core.Path.{_≡_, refl, _∙_}
+use Prim.Native.Nat.{_≤_}
 use native.Mathlib.Nat.{le-refl, lt-of-lt-of-le, mod-lt}
 use native.Mathlib.Omega.{arith}
 use borrow.Author.Needs.{needs}
@@ -18,40 +18,25 @@ Inv-loop n base count at out₀ i₀ left₀ out i left = (i ≤ count) × (leng
 abbrev μ-loop : tie.MeasureT-loop
 μ-loop n base count at out₀ i₀ left₀ out i left = i
 
-loop-holds : tie.Need-loop-holds Inv-loop μ-loop
-loop-holds c = (le-refl _, refl, refl)
-
 digit-code-requires : tie.Need-digit-code-requires Inv-loop μ-loop
-digit-code-requires c κs =
-    let p = c .before .before .before .pre .0 in
-    lt-of-lt-of-le (mod-lt _ (p .0)) (p .1)
+digit-code-requires c κs = let base = c .before .before .before .pre .0 in lt-of-lt-of-le (mod-lt _ (base .0)) (base .1)
 
 loop-again : tie.Need-loop-again Inv-loop μ-loop
 loop-again c =
-    let s = c .before .before in
-    let a = s .before .before .args in (
+    let turn : tie.At-loop Inv-loop μ-loop = c .before .before in
+    let a = turn .before .before .args in
+    let now = turn .loop in (
       omega arith,
-      length-set (s .loop .out) _ _ ∙ s .loop .inv .1,
-      rw (c .digit-code .ensures) (lowest-first (s .loop .left) (a .base) (s .loop .i) (a .at) (s .loop .out) (c .before .loop-test .taken) ∙ s .loop .inv .2),
+      simp length-set (now .inv .1),
+      rw (c .digit-code .ensures) (lowest-first (now .left) (a .base) (now .i) (a .at) (now .out) (c .before .loop-test .taken) ∙ now .inv .2),
     )
-
--- no digit is left
-none-left : (n base i at : ℕ) (l : List ℕ) → i ≤ 0 → l ≡ sets l at (digits n base i)
-unfolding digits
-none-left n base i at l h =
-    let e : i ≡ 0 = omega arith in
-    rw e
 
 returns : tie.Need-returns Inv-loop μ-loop
+unfolding digits
 returns c =
-    let s = c .before in
-    let a = s .before .before .args in (
-      record {
-        bytes = none-left (s .loop .left) (a .base) (s .loop .i) (a .at) (s .loop .out) (c .loop-test .left) ∙ s .loop .inv .2;
-        after = ap (λ (k : ℕ). a .at + k) (sym (length-digits (a .n) (a .base) (a .count)));
-      },
-      refl,
-    )
+    let a = c .before .before .before .args in
+    let none-left : c .before .loop .i ≡ 0 = omega arith in
+    (record { bytes = rw none-left at (c .before .loop .inv .2); after = omega (arith, length-digits (a .n) (a .base) (a .count)) }, refl)
 
 pub put-digits-spec : {M : Type 1} → statement M
 put-digits-spec =
@@ -59,7 +44,7 @@ put-digits-spec =
     (tie.spec
     Inv-loop
     μ-loop
-    loop-holds
+    (λ c. (le-refl _, refl, refl))
     (λ c. search needs)
     (λ c. search needs)
     digit-code-requires

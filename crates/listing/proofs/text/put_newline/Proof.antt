@@ -1,7 +1,7 @@
--- `listing::text::put_newline` meets its contract: one byte is stored. Assumes nothing.
+-- `listing::text::put_newline` meets its contract: a newline is one byte, stored at the place. Assumes nothing.
 use mathlib.Core.Path.{refl}
 use borrow.Author.Needs.{needs}
-use Rattle.listing.proofs.Stores.{one-byte}
+use Rattle.listing.proofs.StoredTexts.{one-byte}
 use Rattle.listing.proofs.text.put_newline.Statement.{statement}
 use Rattle.listing.proofs.text.put_newline.Tie as tie
 

@@ -1,13 +1,14 @@
--- `listing::text::put_text` meets its contract: what is stored with what is left to store is always the text. Assumes nothing.
-use mathlib.Core.Path.{_≡_, refl, sym, _∙_}
+-- `listing::text::put_text` meets its contract: what is left of the text, stored behind what is there, always gives the whole text; a turn stores the
+-- next byte. Assumes nothing.
+use mathlib.Core.Path.{_≡_, refl, _∙_}
 use Prim.Native.Nat.{_+_, _-_, _≤_}
 use native.Mathlib.Nat.{add-zero}
 use native.Mathlib.Omega.{arith}
 use borrow.Author.Needs.{needs}
 use lib.ListN.{length, drop, length-set}
-use lib.Seq.{sets}
+use lib.Seq.{sets, drop-length}
 use denote.Ref.{now}
-use Rattle.listing.proofs.Stores.{next-byte, all-bytes}
+use Rattle.listing.proofs.StoredTexts.{next-byte}
 use Rattle.listing.proofs.text.put_text.Statement.{statement}
 use Rattle.listing.proofs.text.put_text.Tie as tie
 
@@ -17,26 +18,20 @@ Inv-loop text at out₀ i₀ out i = (i ≤ length text) × (length out ≡ leng
 abbrev μ-loop : tie.MeasureT-loop
 μ-loop text at out₀ i₀ out i = length text - i
 
-loop-holds : tie.Need-loop-holds Inv-loop μ-loop
-loop-holds c = (omega arith, refl, rw add-zero)
-
 loop-again : tie.Need-loop-again Inv-loop μ-loop
 loop-again c =
-    let s = c .before .before in
-    let a = s .before .args in (
+    let turn : tie.At-loop Inv-loop μ-loop = c .before .before in
+    let a = turn .before .args in (
       search needs,
-      length-set (s .loop .out) (a .at + s .loop .i) _ ∙ s .loop .inv .1,
-      next-byte (now (a .text)) (s .loop .out) (a .at) (s .loop .i) (c .before .loop-test .taken) ∙ s .loop .inv .2,
+      simp length-set (turn .loop .inv .1),
+      next-byte (now (a .text)) (turn .loop .out) (a .at) (turn .loop .i) (c .before .loop-test .taken) ∙ turn .loop .inv .2,
     )
 
 returns : tie.Need-returns Inv-loop μ-loop
 returns c =
-    let s = c .before in
-    let a = s .before .args in
-    record {
-      bytes = sym (all-bytes (now (a .text)) (s .loop .out) (a .at) (s .loop .i) (c .loop-test .left) (s .loop .inv .0)) ∙ s .loop .inv .2;
-      after = omega arith;
-    }
+    let last : tie.At-loop Inv-loop μ-loop = c .before in
+    let all : last .loop .i ≡ length (now (last .before .args .text)) = omega arith in
+    record { bytes = rw (all, drop-length) at (last .loop .inv .2); after = omega arith }
 
 pub put-text-spec : {M : Type 1} → statement M
 put-text-spec =
@@ -44,7 +39,7 @@ put-text-spec =
     (tie.spec
     Inv-loop
     μ-loop
-    loop-holds
+    (λ c. (omega arith, refl, rw add-zero))
     (λ c. search needs)
     (λ c. search needs)
     (λ c. search needs)

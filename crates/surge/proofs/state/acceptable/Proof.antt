@@ -1,23 +1,24 @@
--- `surge::state::acceptable` meets its contract: the floors are those of table 4. Assumes nothing.
+-- `surge::state::acceptable` meets its contract: the floors are those of table 4, and a test of the rows' entries is one of the state that they hold.
+-- Assumes nothing.
 use mathlib.Core.Path.{_∙_}
 use native.Mathlib.Omega.{arith}
 use Rattle.recurrence.specs.Calls.{gathered}
-use borrow.Author.Needs.{needs}
 use Rattle.job.specs.Format.{jobOf}
 use Rattle.job.proofs.Accepted.{initial-length, initial-fits}
-use Rattle.rows.proofs.InState.{acceptable-is}
-use Rattle.ends.proofs.Accept.{pairs-accepted}
-use Rattle.steps.proofs.Taken.{floor-read}
+use Rattle.section.proofs.RecurrenceTies.{acceptable-is}
+use Rattle.pipe_ends.proofs.Acceptance.{pairs-accepted}
+use Rattle.time_step.proofs.StepInRows.{floor-read}
 use Rattle.surge.proofs.state.acceptable.Statement.{statement}
 use Rattle.surge.proofs.state.acceptable.Tie as tie
 
-table-requires : tie.Need-table-requires
-table-requires c κs = (pairs-accepted _ (c .before .before .before .before .before .pre .0 .0), search needs)
+-- the function's entry
+abbrev entry : tie.After-shared-slice-known5 → tie.Start
+entry c = c .before .before .before .before .before
 
 acceptable-requires : tie.Need-acceptable-requires
 acceptable-requires c κs =
-    let pre = c .before .before .before .before .before .before .pre in
-    rw (c .table .ensures) (
+    let pre = entry (c .before) .pre in
+    rw (c .initial .ensures) (
       record {
         table-long = omega (arith, initial-length _ (pre .0 .0), pre .0 .1);
         table-fits = initial-fits _ (pre .0 .0);
@@ -29,10 +30,10 @@ acceptable-requires c κs =
 
 returns : tie.Need-returns
 returns c e =
-    let s = c .before .before .before .before .before .before .before in
+    let s = entry (c .before .before) in
     c .acceptable .ensures
-    ∙ rw (c .before .table .ensures, s .pre .0 .1)
+    ∙ rw (c .before .initial .ensures, s .pre .0 .1)
     (acceptable-is (jobOf (s .args .job .now)) _ (floor-read _ (s .pre .0 .0)) (gathered (s .args .heads .now) (s .args .flows .now) (s .args .highest .now) (s .args .lowest .now) e))
 
 pub acceptable-spec : {M : Type 1} → statement M
-acceptable-spec = tie.close (tie.spec table-requires acceptable-requires returns)
+acceptable-spec = tie.close (tie.spec (λ c κs. pairs-accepted _ (entry c .pre .0 .0)) acceptable-requires returns)

@@ -3,7 +3,7 @@ use Prim.Native.Nat.{_-_}
 use native.Mathlib.Omega.{arith}
 use borrow.Author.Needs.{needs}
 use Rattle.loops.proofs.Fill.{Upto, upto-none, upto-step, upto-done}
-use Rattle.job.specs.FromTables.{initialOf}
+use Rattle.job.specs.TableEntries.{initialOf}
 use Rattle.surge.proofs.state.write_initial.Statement.{statement}
 use Rattle.surge.proofs.state.write_initial.Tie as tie
 
@@ -18,11 +18,15 @@ abbrev μ-loop : tie.MeasureT-loop
 loop-holds : tie.Need-loop-holds Inv-loop μ-loop
 loop-holds c = (upto-none, upto-none, upto-none, upto-none)
 
+-- the function's entry
+abbrev entry : tie.At-loop Inv-loop μ-loop → tie.Start Inv-loop μ-loop
+entry c = c .before .before .before .before .before .before
+
 head-at-requires : tie.Need-head-at-requires Inv-loop μ-loop
-head-at-requires c κs = let pre = c .before .before .before .before .before .before .before .pre .0 in (pre .0, omega (arith, pre .1))
+head-at-requires c κs = let pre = entry (c .before) .pre .0 in (pre .0, omega (arith, pre .1))
 
 flow-at-requires : tie.Need-flow-at-requires Inv-loop μ-loop
-flow-at-requires c κs = let pre = c .before .before .before .before .before .before .before .before .pre .0 in (pre .0, omega (arith, pre .1))
+flow-at-requires c κs = head-at-requires (c .before) κs
 
 loop-again : tie.Need-loop-again Inv-loop μ-loop
 loop-again c =

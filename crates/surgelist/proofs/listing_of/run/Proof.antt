@@ -1,47 +1,37 @@
--- `surgelist::listing_of::run` meets its contract: the run-on goes from the rows that the start left. Assumes nothing.
+-- `surgelist::listing_of::run` meets its contract: the start and the run-on keep the rows long enough for every job, and the run-on goes from the rows
+-- that the start left, so that its rows and its answer are those of the job's own run. Assumes nothing.
 use native.Mathlib.Omega.{arith}
 use borrow.Author.Needs.{needs}
-use Rattle.recurrence.specs.Calls.{Rows, gathered}
-use Rattle.recurrence.specs.Slices.{lent}
-use Rattle.surge.specs.Answers.{left}
-use Rattle.surgelist.specs.Lent.{Long}
-use Rattle.surgelist.proofs.ListingLaws.{written-listing}
+use Rattle.surgelist.specs.LentRows.{Long}
+use Rattle.surgelist.proofs.ListingLaws.{rowsLeft, written-listing}
 use Rattle.surgelist.proofs.listing_of.run.Statement.{statement}
 use Rattle.surgelist.proofs.listing_of.run.Tie as tie
 
--- where the call starts, where the start has been done, and the run-on after it
-abbrev begin : tie.After-start → tie.Start
-begin c = c .before .before .before .before .before .before .before .before .before .before .before .before
+-- the function's entry, and where the start and the run-on have been done
+abbrev entry : tie.After-start → tie.Start
+entry c = let lent : tie.After-slice-known5 = c .before .before .before .before .before .before in lent .before .before .before .before .before .before
 
 abbrev started : tie.After-run-on → tie.After-start
-started c = c .before .before .before .before .before .before .before .before .before .before .before .before .before .before .before .before
+started c =
+    let lent : tie.After-slice-known10 = c .before .before .before .before .before .before in
+    let highest : tie.After-highest = lent .before .before .before .before .before in
+    highest .before .before .before .before .before
 
 abbrev ran : tie.After-slice-known15 → tie.After-run-on
-ran c = c .before .before .before .before .before .before .before .before .before .before
+ran c = let highest : tie.After-highest2 = c .before .before .before .before .before in highest .before .before .before .before .before
 
--- the rows as they are lent, as the start leaves them and as the run-on does
-abbrev rows : tie.Start → Rows
-rows c = let a = c .args in lent (a .heads) (a .flows) (a .highest) (a .lowest) (a .spare)
+long-started : (c : tie.After-start) → Long (rowsLeft (c .start .last .1))
+long-started c = let l = entry c .pre .1 in let k = c .start .kept .1 in omega arith
 
-abbrev rows-started : tie.After-start → Rows
-rows-started c = let l = c .start .last .1 in gathered (l .0) (l .1 .0) (l .1 .1 .0) (l .1 .1 .1 .0) (l .1 .1 .1 .1 .0)
-
-abbrev rows-ran : tie.After-run-on → Rows
-rows-ran c = let l = c .run-on .last .1 .1 .1 in gathered (l .0) (l .1 .0) (l .1 .1 .0) (l .1 .1 .1 .0) (l .1 .1 .1 .1 .0)
-
-long-started : (c : tie.After-start) → Long (rows-started c)
-long-started c = let l = begin c .pre .1 in let k = c .start .kept .1 in omega arith
-
-long-ran : (c : tie.After-run-on) → Long (rows-ran c)
+long-ran : (c : tie.After-run-on) → Long (rowsLeft (c .run-on .last .1 .1 .1))
 long-ran c = let l = long-started (started c) in let k = c .run-on .kept .1 .1 .1 in omega arith
 
 returns : tie.Need-returns
 returns c =
     let r = ran c in
     let s = started r in
-    let b = begin s in
-    written-listing (b .args .job .now) (b .pre .0 .0) (rows b) (left (rows-started s) (s .start .result)) (left (rows-ran r) (r .run-on .result)) _
-    (b .pre .1) (long-started s) (long-ran r) (s .start .ensures) (r .run-on .ensures) (b .pre .0 .1)
+    let e = entry s in
+    written-listing (e .args .job .now) (e .pre .0 .0) (e .pre .1) (long-started s) (long-ran r) (s .start .ensures) (r .run-on .ensures) (e .pre .0 .1)
 
 pub run-spec : {M : Type 1} → statement M
 run-spec =

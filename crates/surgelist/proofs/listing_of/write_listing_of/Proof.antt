@@ -1,36 +1,63 @@
--- `surgelist::listing_of::write_listing_of` meets its contract: a refused job's closing line alone, else the listing of what the run left. Assumes nothing.
-use mathlib.Core.Path.{sym, ap, _∙_}
+-- `surgelist::listing_of::write_listing_of` meets its contract: a refused job has its closing line alone; an accepted one the lines of the rows that the
+-- run left and the closing line of its answer's numbers, within room for 512 lines and one. Assumes nothing.
+use mathlib.Core.Path.{_≡_, sym, ap, _∙_}
+use native.Mathlib.Omega.{arith}
 use borrow.Author.Needs.{needs}
-use Rattle.job.specs.Answer.{paperAnswer}
+use Rattle.job.specs.Job.{sections}
+use Rattle.job.specs.Format.{listingSteps, jobOf}
+use Rattle.job.specs.Questions.{Accepted}
+use Rattle.job.specs.Answer.{paperRead}
+use Rattle.job.proofs.Accepted.{section-limit}
 use Rattle.job.proofs.AnswerLaws.{refused-is, accepted-is}
-use Rattle.surgelist.proofs.ListingLaws.{front-is, refused-listing}
+use Rattle.surge.specs.Answers.{paperAnswer}
+use Rattle.surgelist.proofs.ListingLaws.{rowsLeft, front-is, front-text, refused-listing}
 use Rattle.surgelist.proofs.listing_of.write_listing_of.Statement.{statement}
 use Rattle.surgelist.proofs.listing_of.write_listing_of.Tie as tie
 
--- where the call starts, and where the job has been read and is refused or accepted
-abbrev begin : tie.After-read → tie.Start
-begin c = c .before .before .before .before .before .before .before .before
+-- the function's entry, where the job has been read and is refused or accepted, and where the run has been done
+abbrev entry : tie.After-read → tie.Start
+entry c = let lent : tie.After-slice-known3 = c .before .before .before .before in lent .before .before .before .before
 
 abbrev refused : tie.After-write-listing → tie.After-read2
-refused c = c .before .before .before .before .before .before .before
+refused c = let told : tie.After-known-told = c .before .before .before .before .before .before in told .before
 
-abbrev accepted : tie.After-write-accepted-arg6 → tie.After-read3
-accepted c = c .before .before .before .before .before .before .before
+abbrev accepted : tie.After-run-arg5 → tie.After-read3
+accepted c = c .before .before .before .before .before .before
 
-write-accepted-requires : tie.Need-write-accepted-requires
-write-accepted-requires c κs =
-    let a = accepted c in
-    let d = a .before .before in
-    (accepted-is (begin d .args .job .now) _ _ (ap paperAnswer (sym (a .read3 .given .1)) ∙ d .read .ensures), begin d .pre)
+abbrev ran : tie.After-numbers-of → tie.After-run
+ran c = let highest : tie.After-highest = c .before .before .before .before .before .before in highest .before .before .before .before .before
 
-returns : tie.Need-returns
-returns c =
-    let w = c .before .before in
-    let a = refused w in
-    let d = a .before .before in
-    let job = begin d .args .job .now in
-    let r = refused-is job _ (ap paperAnswer (sym (a .read2 .given .1)) ∙ d .read .ensures) in
+-- what the answer of `read` tells of an accepted job
+held : (c : tie.After-read3)
+    → let job = entry (c .before .before) .args .job .now in
+    let told = c .read3 .given .0 in
+    Accepted job × (told .0 ≡ sections (jobOf job)) × (told .1 .0 ≡ listingSteps job)
+held c = accepted-is _ _ _ (ap paperRead (sym (c .read3 .given .1)) ∙ c .before .before .read .ensures)
+
+run-requires : tie.Need-run-requires
+run-requires c κs = let a = accepted c in ((held a .0, held a .2), entry (a .before .before) .pre .0)
+
+write-listing-requires : tie.Need-write-listing-requires-2
+write-listing-requires c κs =
+    let r = ran (c .before .before .before .before .before) in
+    let a = accepted (r .before) in
+    omega (arith, section-limit _ (held a .0), held a .1, entry (a .before .before) .pre, r .run .kept)
+
+returns-refused : tie.Need-returns
+returns-refused c =
+    let w : tie.After-write-listing = c .before .before in
+    let read : tie.After-read = refused w .before .before in
+    let job = entry read .args .job .now in
+    let r = refused-is job _ (ap paperRead (sym (refused w .read2 .given .1)) ∙ read .read .ensures) in
     front-is (w .write-listing .ensures) (refused-listing job _ _ (r .0) (r .1))
+
+returns-accepted : tie.Need-returns-2
+returns-accepted c =
+    let w : tie.After-write-listing2 = c .before .before in
+    let numbers : tie.After-numbers-of = w .before .before .before .before .before .before in
+    let r = ran numbers in
+    let e = numbers .numbers-of .ensures in
+    front-is (front-text (rowsLeft (r .run .last .1 .1)) (paperAnswer (r .run .result)) _ (w .write-listing2 .ensures) (held (accepted (r .before)) .1) (e .0) (e .1) (e .2)) (r .run .ensures)
 
 pub write-listing-of-spec : {M : Type 1} → statement M
 write-listing-of-spec =
@@ -40,17 +67,19 @@ write-listing-of-spec =
     (λ c. search needs)
     (λ c κs. search needs)
     (λ c. search needs)
-    write-accepted-requires
+    run-requires
+    (λ c κs. search needs)
+    write-listing-requires
     (λ c. search needs)
     (λ c. search needs)
     (λ c. search needs)
     (λ c. search needs)
     (λ c. search needs)
-    returns
+    returns-refused
     (λ c. search needs)
     (λ c. search needs)
     (λ c. search needs)
     (λ c. search needs)
     (λ c. search needs)
     (λ c. search needs)
-    (λ c. search needs))
+    returns-accepted)

@@ -1,4 +1,4 @@
--- `wave::Sums::head_less` meets its contract, in each arm of its match. Assumes nothing.
+-- What flows out is taken from B; a discharge that is not finite makes the head plus infinity. Assumes nothing.
 use borrow.Author.Needs.{needs}
 use Rattle.wave.specs.Nodes.{headLess}
 use Rattle.wave.proofs.Sums.head_less.Statement.{statement}

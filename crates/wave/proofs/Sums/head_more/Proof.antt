@@ -1,4 +1,4 @@
--- `wave::Sums::head_more` meets its contract, in each arm of its match. Assumes nothing.
+-- What flows in is added to B; a discharge that is not finite makes the head plus infinity. Assumes nothing.
 use borrow.Author.Needs.{needs}
 use Rattle.wave.specs.Nodes.{headMore}
 use Rattle.wave.proofs.Sums.head_more.Statement.{statement}

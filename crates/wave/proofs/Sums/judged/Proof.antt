@@ -1,4 +1,4 @@
--- `wave::Sums::judged` meets its contract, at each return by the tests that lead there. Assumes nothing.
+-- The head stays where both sums are finite and is plus infinity where either is not: one test after the other. Assumes nothing.
 use mathlib.Core.Path.{sym, _∙_}
 use borrow.Author.Needs.{needs}
 use Rattle.wave.specs.Nodes.{judged}

@@ -1,4 +1,4 @@
--- `wave::Sums::none` meets its contract: the definition is what the code computes. Assumes nothing.
+-- Before any end both sums are +0. Assumes nothing.
 use mathlib.Core.Path.{refl}
 use Rattle.wave.specs.Adding.{noSums}
 use Rattle.wave.proofs.Sums.none.Statement.{statement}

@@ -1,4 +1,4 @@
--- `wave::Sums::with_k` meets its contract: the definition is what the code computes. Assumes nothing.
+-- K is added to B, and T stays as it is. Assumes nothing.
 use mathlib.Core.Path.{refl}
 use Rattle.wave.specs.Adding.{withK}
 use Rattle.wave.proofs.Sums.with_k.Statement.{statement}

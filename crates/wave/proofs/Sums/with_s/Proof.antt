@@ -1,4 +1,4 @@
--- `wave::Sums::with_s` meets its contract: the definition is what the code computes. Assumes nothing.
+-- S is added to T, and B stays as it is. Assumes nothing.
 use mathlib.Core.Path.{refl}
 use Rattle.wave.specs.Adding.{withS}
 use Rattle.wave.proofs.Sums.with_s.Statement.{statement}

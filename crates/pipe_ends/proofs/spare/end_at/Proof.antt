@@ -1,0 +1,11 @@
+-- `pipe_ends::spare::end_at` meets its contract: it reads the two numbers of the definition. Assumes nothing.
+use mathlib.Core.Path.{refl}
+use borrow.Author.Needs.{needs}
+use Rattle.pipe_ends.proofs.spare.end_at.Statement.{statement}
+use Rattle.pipe_ends.proofs.spare.end_at.Tie as tie
+
+returns : tie.Need-returns
+returns c = refl
+
+pub end-at-spec : {M : Type 1} → statement M
+end-at-spec = tie.close (tie.spec (λ c. search needs) (λ c. search needs) (λ c. search needs) (λ c. search needs) (λ c. search needs) returns)

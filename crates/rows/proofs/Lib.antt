@@ -1,5 +1,0 @@
-pub mod Entries
-pub mod Differences
-pub mod Sound
-pub mod InState
-pub mod Stepping

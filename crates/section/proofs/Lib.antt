@@ -1,0 +1,5 @@
+pub mod Entries
+pub mod Differences
+pub mod Soundness
+pub mod RecurrenceTies
+pub mod RowLaws

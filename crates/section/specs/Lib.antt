@@ -1,0 +1,2 @@
+pub mod SectionRows
+pub mod Faults

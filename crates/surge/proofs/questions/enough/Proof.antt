@@ -1,0 +1,18 @@
+-- `surge::questions::enough` meets its contract: the comparison for each row, all of them. Assumes nothing.
+use borrow.Author.Needs.{needs}
+use Rattle.surge.proofs.CallLaws.{enough-asked}
+use Rattle.surge.proofs.questions.enough.Statement.{statement}
+use Rattle.surge.proofs.questions.enough.Tie as tie
+
+returns : tie.Need-returns
+returns c =
+    let s = c .before .before in
+    enough-asked _ (s .pre .0) (s .pre .1) (c .pipe-count .ensures .0) _ _ _ _ _
+
+pub enough-spec : {M : Type 1} → statement M
+enough-spec =
+    tie.close
+    (tie.spec
+    (λ c κs. search needs)
+    (λ c. search needs)
+    returns)

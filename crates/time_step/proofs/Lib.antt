@@ -1,0 +1,7 @@
+pub mod InnerThenStart
+pub mod CutToPipe
+pub mod BySpare
+pub mod FaultCount
+pub mod FirstFault
+pub mod RunLaws
+pub mod StepInRows

@@ -1,0 +1,2 @@
+pub mod BySpare
+pub mod StepsInRows

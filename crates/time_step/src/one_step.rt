@@ -1,0 +1,52 @@
+// One step over the lent rows, in place.
+ghost use mathlib.Core.Path.{_≡_};
+ghost use Prim.Native.Nat.{_+_, _≤_};
+ghost use Rattle.pipe_ends.specs.FromRows.{constantSums};
+ghost use Rattle.recurrence.specs.Slices.{lent, before, after};
+ghost use Rattle.time_step.specs.StepsInRows as inner;
+use super::Ended;
+use section::Scan;
+use wave::Sums;
+
+// Whether a scan found a fault.
+pub(super) fn stops(found: Scan) -> bool
+    ensures { λ r. ⌜ r ≡ inner.stops found ⌝ }
+{
+    match found {
+        Scan::Sound => false,
+        Scan::NotFinite(_) => true,
+        Scan::Parted(_) => true,
+    }
+}
+
+// The step after `done` steps; `sums` has the sums of the nodes before any K. Where the check finds a fault
+// nothing but the spare is written.
+pub(super) fn one_step(
+    job: &[u8],
+    done: u64,
+    sums: [Sums; 32],
+    heads: &mut [f64],
+    flows: &mut [f64],
+    highest: &mut [f64],
+    lowest: &mut [f64],
+    spare: &mut [f64],
+) -> Ended
+    requires { ⌜ (inner.Ready (now job) (lent heads flows highest lowest spare))
+        × (done + 1 ≤ 1000000) × (sums ≡ constantSums (now job)) ⌝ }
+    ensures { λ r. ⌜ inner.StepsInRows (now (job .entry)) done 1 (before heads flows highest lowest spare)
+        (after heads flows highest lowest spare) r ⌝ }
+{
+    let after = done + 1;
+    let step = after as usize;
+    let values = pipe_ends::nodes::values_at(job, step);
+    pipe_ends::spare::write_ends(job, values, sums, heads, flows, spare);
+    let found = super::check::check(job, heads, flows, spare);
+    if stops(found) {
+        return Ended { steps: done, found };
+    }
+    super::commit::commit(job, spare, heads, flows, highest, lowest);
+    Ended {
+        steps: after,
+        found,
+    }
+}
