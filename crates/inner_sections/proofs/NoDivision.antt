@@ -12,7 +12,8 @@ use lib.Ieee.{Float, nan, inf, fin, Format, up, down, round, neg, fits, lt, add,
 use lib.Ieee.Fits.{up-pos, down-pos}
 use lib.Ieee.Scale.{finite}
 use lib.Ieee.Positive.{positive}
-use Rattle.inner_sections.proofs.Rounding.{Signed, round-sign, round-neg, at-least, at-most, less, more}
+use Rattle.fields.proofs.Signs.{Signed, round-sign}
+use Rattle.inner_sections.proofs.Rounding.{round-neg, at-least, at-most, less, more}
 
 -- ---- signs
 

@@ -16,8 +16,8 @@ use Rattle.recurrence.specs.Scan.{causeNumber, faultOf, earlier, scan, o
 use Rattle.recurrence.specs.Run.{stopAnswer, answerOf, ask, started, start, onward, steps, withinLimit, runOn, leftBy, playedFrom, answersFrom, played, answers, oneMore, finishedOf, ifRan, stepsBy, stepsDoneFrom, stepsDone}
 use Rattle.recurrence.specs.Calls.{enoughLent, pointIn, stateIn, holds, rowsOf, rowsAfter, readFirst, called, startResult, startCall, runOnResult, runOnCall}
 use Rattle.recurrence.specs.Figures.{patched, jobQAt12, jobQOnFloor, jobQClosing, jobQTooOpen, lentSevens, ranOn}
-use Rattle.recurrence.specs.OwnFigures.{after, answerAfter, twoPipes, threePipes, bothFaults, faultsUpward, minusZero}
+use Rattle.recurrence.specs.OwnFigures.{after, answerAfter, twoPipes, outletAt, threePipes, bothFaults, faultsUpward, minusZero}
 
 unfoldable pub opened : Unit {0}
-unfolding ofBits toBits ofInt add sub mul div neg lt eq u64At f64At zeroBitsAt allBelow firstBelow rootOf magnitude fromAbove fromBelow inner finishK startK finishEnd startEnd sumFrom sumsOf rooted valveW valveY orificeArgument orificeRate orificeFlow valveFlow pumpH pumpY pumpArgument liftFlow pumpFlow headLess headMore judged nodeHead laidFrom laid sectionsOf sections frictionAt nodeAt initialAt floorAt entryAt scheduled withValue listed table pipesIn reachesOf kindIn frictionIn initialIn placeOf nodeIn nodesIn jobOf sizeFits pairsFit follows tablesFollow stepsFit holdsRecords joins pipesJoin sectionsFit constantFits constantsFit kindFits kindsFit allFinite hasNoFigures valveFits pumpFits figuresFitKind figureFits figuresFit endsAt hasEnd nodesMet rFits frictionFits frictionRight finiteSection sectionFits initialFits initialRight entryFits scheduleFits schedulesFit schedulesRight pairQuestions pipeQuestions nodeQuestions valueQuestions questions firstNo refusal jobQ jobOfAllKinds noPoint pointAt startPoint startState alongPipes nodesWith along cpAfter cmBefore kAtFinish kAtStart endsOf sumsAt headAt located atFinish atStart between endToEnd newIn newAt raised lowered updated newPoint advanced causeNumber faultOf earlier scan outcomeOf step acceptableAt acceptable stopAnswer answerOf ask started start onward steps withinLimit runOn leftBy playedFrom answersFrom played answers oneMore finishedOf ifRan stepsBy stepsDoneFrom stepsDone enoughLent pointIn stateIn holds rowsOf rowsAfter readFirst called startResult startCall runOnResult runOnCall patched jobQAt12 jobQOnFloor jobQClosing jobQTooOpen lentSevens ranOn after answerAfter twoPipes threePipes bothFaults faultsUpward minusZero
+unfolding ofBits toBits ofInt add sub mul div neg lt eq u64At f64At zeroBitsAt allBelow firstBelow rootOf magnitude fromAbove fromBelow inner finishK startK finishEnd startEnd sumFrom sumsOf rooted valveW valveY orificeArgument orificeRate orificeFlow valveFlow pumpH pumpY pumpArgument liftFlow pumpFlow headLess headMore judged nodeHead laidFrom laid sectionsOf sections frictionAt nodeAt initialAt floorAt entryAt scheduled withValue listed table pipesIn reachesOf kindIn frictionIn initialIn placeOf nodeIn nodesIn jobOf sizeFits pairsFit follows tablesFollow stepsFit holdsRecords joins pipesJoin sectionsFit constantFits constantsFit kindFits kindsFit allFinite hasNoFigures valveFits pumpFits figuresFitKind figureFits figuresFit endsAt hasEnd nodesMet rFits frictionFits frictionRight finiteSection sectionFits initialFits initialRight entryFits scheduleFits schedulesFit schedulesRight pairQuestions pipeQuestions nodeQuestions valueQuestions questions firstNo refusal jobQ jobOfAllKinds noPoint pointAt startPoint startState alongPipes nodesWith along cpAfter cmBefore kAtFinish kAtStart endsOf sumsAt headAt located atFinish atStart between endToEnd newIn newAt raised lowered updated newPoint advanced causeNumber faultOf earlier scan outcomeOf step acceptableAt acceptable stopAnswer answerOf ask started start onward steps withinLimit runOn leftBy playedFrom answersFrom played answers oneMore finishedOf ifRan stepsBy stepsDoneFrom stepsDone enoughLent pointIn stateIn holds rowsOf rowsAfter readFirst called startResult startCall runOnResult runOnCall patched jobQAt12 jobQOnFloor jobQClosing jobQTooOpen lentSevens ranOn after answerAfter twoPipes outletAt threePipes bothFaults faultsUpward minusZero
 opened = tt

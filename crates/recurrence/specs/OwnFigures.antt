@@ -7,7 +7,7 @@ use Prim.Native.Nat.{ℕ}
 use lib.ListN.{set, take, replicate}
 use lib.Ieee.{Float, nan, binary64, neg, toBits}
 use Rattle.fields.specs.Real.{zero64, infinity64}
-use Rattle.wave.specs.Figures.{num, halved, power}
+use Rattle.wave.specs.Figures.{num, tenths, halved, power}
 use Rattle.job.specs.Job.{Job, Pipe, Kind, junction, reservoir, valve, ScheduledNode, Initial}
 use Rattle.job.specs.OwnJobs.{jobOfAllKinds}
 use Rattle.job.specs.JobQ.{jobQ}
@@ -133,23 +133,33 @@ node k vs = record { kind = k; schedule = vs }
 abbrev pub initially : Float → Float → Float → Initial
 initially H Q F = record { head = H; flow = Q; floor = F }
 
--- Pipes of one reach and of three from a reservoir over a junction to a valve: four R, two steps of each schedule.
+-- Pipes of one reach and of three from a reservoir over a junction to a valve: four R, two entries of each schedule but the draw-off's. The valve
+-- discharges at steps 1 and 2 (y is about 4.14 and 3.46) and draws nothing at step 3 (about -0.52).
 unfoldable pub twoPipes : Job
 twoPipes =
     let low = neg (num 100) in
     record {
-      pipes = pipe 0 1 1 (num 1) ∷ pipe 1 2 3 (num 2) ∷ [];
-      nodes = node reservoir (num 12 ∷ num 11 ∷ []) ∷ node junction (halved 1 1 ∷ []) ∷ node (valve (num 2) (num 3)) (num 1 ∷ halved 1 1 ∷ []) ∷ [];
-      friction = halved 1 2 ∷ halved 1 1 ∷ num 1 ∷ num 2 ∷ [];
+      pipes = pipe 0 1 1 (num 2) ∷ pipe 1 2 3 (tenths 7) ∷ [];
+      nodes = node reservoir (num 11 ∷ num 5 ∷ []) ∷ node junction (halved 1 1 ∷ []) ∷ node (valve (num 2) (num 6)) (num 1 ∷ halved 1 1 ∷ []) ∷ [];
+      friction = halved 1 2 ∷ halved 1 1 ∷ halved 1 3 ∷ halved 1 4 ∷ [];
       initial =
-          initially (num 10) (num 4) low
-          ∷ initially (num 9) (num 3) low
-          ∷ initially (num 9) (num 2) low
-          ∷ initially (num 8) (num 1) low
-          ∷ initially (num 7) (num 2) low
-          ∷ initially (num 6) (neg (num 3)) low
+          initially (num 13) (num 4) low
+          ∷ initially (num 11) (num 1) low
+          ∷ initially (num 11) (num 4) low
+          ∷ initially (num 9) (num 4) low
+          ∷ initially (num 7) (num 5) low
+          ∷ initially (num 7) (num 4) low
           ∷ [];
     }
+
+-- One reach of S = 0.1, no friction, from a reservoir at b to a valve at b whose w·w is infinite; at rest but for a flow at the reservoir.
+unfoldable pub outletAt : Float → Float → Job
+outletAt b Q = record {
+  pipes = pipe 0 1 1 (tenths 1) ∷ [];
+  nodes = node reservoir (b ∷ []) ∷ node (valve (power 400) b) (num 1 ∷ []) ∷ [];
+  friction = num 0 ∷ [];
+  initial = initially b Q (num 0) ∷ initially b (num 0) (num 0) ∷ [];
+}
 
 -- Three pipes that end at one junction, whose K are 2^53, 1 and 1: their sum turns on its order.
 unfoldable pub threePipes : Job
@@ -197,13 +207,19 @@ pub record StepFigures : Type 0 where
   pub closing-3 : ranOn jobQClosing 3 .rows heads are row (num 10) (num 14) (num 14)
   -- and a run-on with m = 1 begins at step 2
   pub closing-from-1 : runOnCall jobQClosing 1 1 (startCall jobQClosing lentSevens .rows) .rows heads are row (num 10) (num 10) (num 14)
-  -- R of each reach, S of each pipe, each kind's value of the step
-  pub heads-1 : after twoPipes 1 heads ≡ 0x4028_0000_0000_0000 ∷ 0x4020_aaaa_aaaa_aaab ∷ 0x4020_aaaa_aaaa_aaab ∷ 0x4021_0000_0000_0000 ∷ 0x400a_0000_0000_0000 ∷ 0x400b_0e44_3234_05ac ∷ []
-  pub flows-1 : after twoPipes 1 flows ≡ 0x400e_0000_0000_0000 ∷ 0x3ffa_aaaa_aaaa_aaa8 ∷ 0x3ff2_aaaa_aaaa_aab0 ∷ 0x3ff0_0000_0000_0000 ∷ 0x4023_0000_0000_0000 ∷ 0x3ff3_c6ef_372f_e950 ∷ []
-  pub heads-2 : after twoPipes 2 heads ≡ 0x4026_0000_0000_0000 ∷ 0x4022_d2aa_aaaa_aaab ∷ 0x4022_d2aa_aaaa_aaab ∷ 0x403a_19c7_1c71_c71c ∷ 0x4019_9566_4b4e_0882 ∷ 0xc053_706e_c89f_940c ∷ []
-  pub flows-2 : after twoPipes 2 flows ≡ 0x400d_1c71_c71c_71c6 ∷ 0x4006_9555_5555_5554 ∷ 0x4002_9555_5555_5558 ∷ 0xc041_8638_e38e_38e4 ∷ 0x4010_d533_6963_eefc ∷ 0xc021_f913_7606_bf40 ∷ []
-  pub highest-2 : after twoPipes 2 highest ≡ 0x4028_0000_0000_0000 ∷ 0x4022_d2aa_aaaa_aaab ∷ 0x4022_d2aa_aaaa_aaab ∷ 0x403a_19c7_1c71_c71c ∷ 0x401c_0000_0000_0000 ∷ 0x4018_0000_0000_0000 ∷ []
-  pub lowest-2 : after twoPipes 2 lowest ≡ 0x4024_0000_0000_0000 ∷ 0x4020_aaaa_aaaa_aaab ∷ 0x4020_aaaa_aaaa_aaab ∷ 0x4020_0000_0000_0000 ∷ 0x400a_0000_0000_0000 ∷ 0xc053_706e_c89f_940c ∷ []
+  -- R of each reach, S of each pipe, each kind's value of the step; at step 3 the valve's end has K - S·H, which is q but for rounding
+  pub heads-1 : after twoPipes 1 heads ≡ 0x4026_0000_0000_0000 ∷ 0x402a_84bd_a12f_684b ∷ 0x402a_84bd_a12f_684b ∷ 0x4013_36db_6db6_db6d ∷ 0x401d_2492_4924_9249 ∷ 0x401f_be19_9860_0ddd ∷ []
+  pub flows-1 : after twoPipes 1 flows ≡ 0x3fe8_0000_0000_0000 ∷ 0xbfe0_97b4_25ed_0960 ∷ 0xbff0_4bda_12f6_84c8 ∷ 0x3fd5_9999_9999_9998 ∷ 0x4009_9999_9999_999b ∷ 0x4006_42a8_f779_862e ∷ []
+  pub heads-2 : after twoPipes 2 heads ≡ 0x4014_0000_0000_0000 ∷ 0x4022_a905_b05b_05b0 ∷ 0x4022_a905_b05b_05b0 ∷ 0x4021_168c_2011_0439 ∷ 0x4013_d5a1_d2ab_b893 ∷ 0x4021_412c_d6ff_e0c3 ∷ []
+  pub flows-2 : after twoPipes 2 flows ≡ 0xc030_f846_3bb2_be54 ∷ 0x400f_97d2_7d27_d280 ∷ 0x400b_97d2_7d27_d27d ∷ 0x4006_6817_b5f2_34c8 ∷ 0x3fcb_7c14_9b36_e3c0 ∷ 0x3ff9_ef2d_db5c_d7e8 ∷ []
+  pub heads-3 : after twoPipes 3 heads ≡ 0x4014_0000_0000_0000 ∷ 0x403a_8739_af8d_76ac ∷ 0x403a_8739_af8d_76ac ∷ 0x4014_d711_63b1_acec ∷ 0x4021_b0d2_0d5c_3858 ∷ 0x4015_0b87_0455_2875 ∷ []
+  pub flows-3 : after twoPipes 3 flows ≡ 0xc021_3854_ca04_cdd0 ∷ 0x4027_ef54_9908_1020 ∷ 0x4026_ef54_9908_1020 ∷ 0x3fd8_a2e5_2fe1_08f0 ∷ 0x3ff9_bfce_39e2_0530 ∷ 0xbcc0_0000_0000_0000 ∷ []
+  pub highest-3 : after twoPipes 3 highest ≡ 0x402a_0000_0000_0000 ∷ 0x403a_8739_af8d_76ac ∷ 0x403a_8739_af8d_76ac ∷ 0x4022_0000_0000_0000 ∷ 0x4021_b0d2_0d5c_3858 ∷ 0x4021_412c_d6ff_e0c3 ∷ []
+  pub lowest-3 : after twoPipes 3 lowest ≡ 0x4014_0000_0000_0000 ∷ 0x4022_a905_b05b_05b0 ∷ 0x4022_a905_b05b_05b0 ∷ 0x4013_36db_6db6_db6d ∷ 0x4013_d5a1_d2ab_b893 ∷ 0x4015_0b87_0455_2875 ∷ []
+  -- y decides, not B/T against b. At 6 y is +0 and B/T the next f64 above b: nothing is drawn or judged, and H is B/T. At 2.4 y is 2^-55 and B/T is b: the
+  -- root is judged.
+  pub outlet-level : after (outletAt (num 6) (num 0)) 1 heads ≡ 0x4018_0000_0000_0000 ∷ 0x4018_0000_0000_0001 ∷ []
+  pub outlet-above : answerAfter (outletAt (tenths 24) (halved 1 55)) 1 ≡ record { number = 40; steps = 0; section = 1 }
   -- the sums rise by pipe number
   pub rising : after threePipes 1 heads ≡ 0 ∷ 0x4320_0000_0000_0000 ∷ 0 ∷ 0x4320_0000_0000_0000 ∷ 0 ∷ 0x4320_0000_0000_0000 ∷ []
   -- "At one section 40 precedes 41", and sections go upward

@@ -5,12 +5,14 @@ use native.Mathlib.Nat.{not-le-of-lt}
 use native.Mathlib.Omega.{arith}
 use mathlib.Core.Bool.{Bool, true, false, not, cond, true≢false}
 use lib.Dec.{T, ltb, not-T, ltb→lt}
+use lib.Pow.{pow-pos}
 use lib.Ieee.{Float, nan, inf, fin, binary64, size, fits, isNan, ne, lt, div, ofBits, toBits, nanBits}
 use lib.Ieee.Bits.{ofBits-fits, nanBits-above}
 use lib.Ieee.Compare.{differs-from-itself, nan-differs}
+use Rattle.fields.proofs.OwnRounding.{one-value}
 use Rattle.root.specs.Root.{rootable, IsRoot, cutPlaces, rootUnits, rootOf}
 use Rattle.root.specs.Digits.{unitsAt, unitsOf, rootPattern}
-use Rattle.root.proofs.Patterns.{Counts, pattern-counts, units-pos, count-below, count-unique, plus-pattern, minus-zero-pattern}
+use Rattle.root.proofs.Patterns.{Counts, pattern-counts, units-pos, count-below, plus-pattern, minus-zero-pattern}
 use Rattle.root.proofs.Lead.{lead, lead-low, lead-high, few, enough, not-many, units-count, units-held}
 use Rattle.root.proofs.Relation.{rootOf-is, root-is}
 use Rattle.root.proofs.Rootable.{plus-rootable, minus-not-rootable}
@@ -71,7 +73,7 @@ module _ (n : ℕ) (lo : 105 ≤ size n) (hi : size n ≤ 3172) where
 
   pattern-value : ofBits binary64 (rootPattern n) ≡ rootUnits n
   pattern-value =
-      count-unique (ofBits binary64 (rootPattern n)) (rootUnits n) (lead n * 2 ^ cutPlaces n) (ofBits-fits binary64 (rootPattern n)) (units-held n lo hi)
+      one-value binary64 (ofBits binary64 (rootPattern n)) (rootUnits n) false (lead n * 2 ^ cutPlaces n) (2 ^ 1074) (pow-pos 1074) (ofBits-fits binary64 (rootPattern n)) (units-held n lo hi)
       (subst (λ (u : ℕ). Counts (ofBits binary64 (rootPattern n)) false u) pattern-units (pattern-counts (rootPattern n) pattern-lt))
       (units-count n lo hi)
 

@@ -1,7 +1,7 @@
 -- Values as fractions and as so many of one unit, and the order of two values. Assumes nothing.
-use mathlib.Core.Path.{_≡_, sym, ap, _∙_}
+use mathlib.Core.Path.{_≡_, sym, ap}
 use Prim.Native.Nat.{ℕ, zero, suc, _+_, _*_, _≤_, _<_}
-use native.Mathlib.Nat.{le-trans, le-of-eq, le-of-lt, mul-comm, mul-assoc, mul-left-comm, mul-right-comm, mul-pos, mul-le-mul-right, le-of-mul-le-mul-right, eq-of-mul-eq-mul-right}
+use native.Mathlib.Nat.{le-trans, le-of-eq, le-of-lt, mul-comm, mul-assoc, mul-left-comm, mul-pos, mul-le-mul-right, le-of-mul-le-mul-right}
 use native.Mathlib.Omega.{arith}
 use mathlib.Core.Bool.{Bool, true, false, _&&_, _||_}
 use lib.IntN.{ℤ}
@@ -50,7 +50,3 @@ plus-le m e n d t = go (ltb a b) (eqb a b) (ltb→lt a b) (eqb→eq a b) t
     go true y f g t = le-of-lt (f tt)
     go false true f g t = le-of-eq (g tt)
     go false false f g t = absurd t
-
-pub same-units : (A a B b L U W : ℕ) → A * L ≡ U * a → B * L ≡ W * b → 0 < a → 0 < b → A * b ≡ B * a → U ≡ W
-same-units A a B b L U W p q x y h = eq-of-mul-eq-mul-right (a * b) (mul-pos x y) U W
-    (sym (mul-assoc U a b) ∙ ap (λ (z : ℕ). z * b) (sym p) ∙ mul-right-comm A L b ∙ ap (λ (z : ℕ). z * L) h ∙ mul-right-comm B a L ∙ ap (λ (z : ℕ). z * a) q ∙ mul-assoc W b a ∙ ap (λ (z : ℕ). W * z) (mul-comm b a))

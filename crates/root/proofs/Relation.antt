@@ -1,4 +1,4 @@
--- `rootOf x` is the root of x where x may be rooted (`root-is`), and there is one root (`one-root-only`). Assumes nothing.
+-- `rootOf x` is the root of x where x may be rooted (`root-is`), so that its sign is never set, and there is one root (`one-root-only`). Assumes nothing.
 use mathlib.Core.Path.{_≡_, refl, sym, ap, _∙_, subst}
 use Prim.Native.Nat.{ℕ, zero, suc, _*_, _/_, _^_, _≤_, _<_}
 use native.Mathlib.Nat.{le-refl, le-trans, le-of-eq, le-antisymm, zero-lt-suc, one-mul, mul-le-mul-right}
@@ -9,10 +9,12 @@ use lib.Pow.{pow-pos}
 use lib.Ieee.{Float, nan, inf, fin, binary64, up, down, size, fits, le}
 use lib.Ieee.Fits.{down-pos}
 use lib.Ieee.Order.{le-of-values}
-use Rattle.root.specs.Root.{rootable, SquareAtMost, IsRoot, cutPlaces, rootUnits, rootOf}
-use Rattle.root.proofs.Patterns.{Counts, placed, count-is, count-unique}
+use Rattle.fields.proofs.OwnRounding.{placed, one-value}
+use Rattle.fields.proofs.Signs.{minus}
+use Rattle.root.specs.Root.{rootable, SquareAtMost, plus, IsRoot, cutPlaces, rootUnits, rootOf}
+use Rattle.root.proofs.Patterns.{Counts, count-is}
 use Rattle.root.proofs.Lead.{lead, square-low, square-greatest, units-count, units-held, enough, not-many}
-use Rattle.root.proofs.Fractions.{to-units, of-units, minus-le, plus-le, same-units}
+use Rattle.root.proofs.Fractions.{to-units, of-units, minus-le, plus-le}
 
 -- ---- r is the greatest value whose square, in units of 2 ^ -2148, is at most n
 
@@ -72,7 +74,7 @@ best-root s m e u (fin false n d) a v w = record {
     top (inf t) f h = absurd h
     top (fin true a c) f h = minus-le a c n d
     top (fin false a c) f h =
-        let p = placed false a c f in
+        let p = placed binary64 false a c f in
         let k = a * 2 ^ p .place in
         let l : k * k ≤ u * 2 ^ 1074 = to-units (a * up c) (down c) (m * up e) (down e) (2 ^ 1074) u k (p .value) v (down-pos c) (down-pos e) h in
         le-of-values (fin false a c) (fin false n d) k (2 ^ 1074) (w .count) (2 ^ 1074) (pow-pos 1074) (pow-pos 1074) (refl, p .value) (w .counts) (mul-le-mul-right (2 ^ 1074) (w .greatest a (p .place) (p .short) l))
@@ -87,9 +89,31 @@ unfolding rootable
 root-is nan f a = absurd (true≢false (sym a))
 root-is (inf s) f a = absurd (true≢false (sym a))
 root-is (fin s m e) f a =
-    let p = placed s m e f in
+    let p = placed binary64 s m e f in
     let u = m * 2 ^ p .place in
     rw (rootOf-is s m e u a (p .value)) (best-root s m e u (rootUnits (u * 2 ^ 1074)) (subst T (sym a) tt) (p .value) (best-of u (p .below)))
+
+-- the root has its sign clear, and at an argument that question 23 refuses it is a NaN
+none-refused : (s : Bool) (m : ℕ) (e : ℤ) → rootable (fin s m e) ≡ false → rootOf (fin s m e) ≡ nan
+unfolding rootOf
+none-refused s m e a = rw a refl
+
+plus-clear : (r : Float) → T (plus r) → minus r ≡ false
+plus-clear nan h = absurd h
+plus-clear (inf true) h = absurd h
+plus-clear (inf false) h = refl
+plus-clear (fin true m e) h = absurd h
+plus-clear (fin false m e) h = refl
+
+pub root-clear : (x : Float) → T (fits binary64 x) → minus (rootOf x) ≡ false
+unfolding rootOf
+root-clear nan f = refl
+root-clear (inf s) f = refl
+root-clear (fin s m e) f = go (rootable (fin s m e)) refl
+  where
+    go : (b : Bool) → rootable (fin s m e) ≡ b → minus (rootOf (fin s m e)) ≡ false
+    go true a = plus-clear (rootOf (fin s m e)) (root-is (fin s m e) f a .sign)
+    go false a = ap minus (none-refused s m e a)
 
 pub one-root-only : (x r q : Float) → IsRoot x r → IsRoot x q → r ≡ q
 one-root-only x nan q i j = absurd (i .square)
@@ -99,8 +123,5 @@ one-root-only x (fin false m e) nan i j = absurd (j .square)
 one-root-only x (fin false m e) (inf s) i j = absurd (j .square)
 one-root-only x (fin false m e) (fin true n d) i j = absurd (j .sign)
 one-root-only x (fin false m e) (fin false n d) i j =
-    let p = placed false m e (i .held) in
-    let o = placed false n d (j .held) in
     let h : m * up e * down d ≡ n * up d * down e = le-antisymm (plus-le m e n d (j .greatest (fin false m e) (i .held) (i .square))) (plus-le n d m e (i .greatest (fin false n d) (j .held) (j .square))) in
-    let k : m * 2 ^ p .place ≡ n * 2 ^ o .place = same-units (m * up e) (down e) (n * up d) (down d) (2 ^ 1074) (m * 2 ^ p .place) (n * 2 ^ o .place) (p .value) (o .value) (down-pos e) (down-pos d) h in
-    count-unique (fin false m e) (fin false n d) (m * 2 ^ p .place) (i .held) (j .held) (refl, p .value) (refl, o .value ∙ ap (λ (z : ℕ). z * down d) (sym k))
+    one-value binary64 (fin false m e) (fin false n d) false (m * up e) (down e) (down-pos e) (i .held) (j .held) (refl, refl) (refl, sym h)

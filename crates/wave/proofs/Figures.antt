@@ -60,7 +60,7 @@ wave-figures = record {
 }
 
 pub node-figures : NodeFigures
-unfolding magnitude rooted valveW valveY orificeArgument orificeRate orificeFlow valveFlow pumpH pumpY pumpArgument liftFlow pumpFlow headLess headMore judged nodeHead rootOf ofBits toBits ofInt add sub mul div neg lt eq
+unfolding rooted valveW valveY orificeArgument orificeRate orificeFlow valveFlow pumpH pumpY pumpArgument liftFlow pumpFlow headLess headMore judged nodeHead rootOf ofBits toBits ofInt add sub mul div neg lt eq
 node-figures = record {
   junction-rounded = refl;
   junction-B-infinite = refl;
@@ -74,7 +74,11 @@ node-figures = record {
   orifice-rounded = refl;
   orifice-subnormal = refl;
   orifice-z-overflow = refl;
+  orifice-y-zero = refl;
   orifice-y-minus-zero = refl;
+  orifice-y-below-zero = refl;
+  orifice-y-minus-infinite = refl;
+  orifice-y-no-number = refl;
   orifice-w-zero = refl;
   orifice-w-minus-zero = refl;
   orifice-w-zero-y-infinite = refl;
@@ -83,6 +87,16 @@ node-figures = record {
   valve-shut-y-infinite = refl;
   valve-shut-minus-zero = refl;
   valve-shut-T-infinite = refl;
+  valve-y-zero-H = refl;
+  valve-y-minus-zero-H = refl;
+  valve-y-below-zero-q = refl;
+  valve-y-below-zero-H = refl;
+  valve-y-minus-infinite-H = refl;
+  valve-y-below-zero-T-infinite = refl;
+  valve-y-below-zero-B-infinite = refl;
+  valve-above-by-y = refl;
+  valve-level-by-y-q = refl;
+  valve-level-by-y-H = refl;
   valve-H-rounded = refl;
   pump-q = refl;
   pump-H = refl;

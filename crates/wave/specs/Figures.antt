@@ -5,7 +5,7 @@ use mathlib.Core.List.{[], _∷_}
 use Prim.Native.Nat.{ℕ, _^_}
 use lib.Dec.{eqb}
 use lib.IntN.{pos}
-use lib.Ieee.{Float, fin, binary64, ofBits, toBits, ofInt, neg}
+use lib.Ieee.{Float, nan, fin, binary64, ofBits, toBits, ofInt, neg}
 use Rattle.fields.specs.Real.{_⊘_, infinity64}
 use Rattle.wave.specs.declared.Sums.{Sums}
 use Rattle.wave.specs.declared.Node.the-variants.{Junction, Reservoir, Valve, Pump}
@@ -44,14 +44,15 @@ abbrev pub _gives_ : Discharge → Float → Type 0
 Flow q gives y = q is y
 NotFinite gives y = ⊥
 
--- Document 01, 'Bench figures'. P4 and P5: S, R, H, Q. P6 and P7: the valve of job Q, v, a, b. P8: the pump, v, a, b, c. P9: K and S of two ends.
+-- Document 01, 'Bench figures', P7 as document 02, 1/12, has it. P4 and P5: S, R, H, Q. P6 and P7: the valve of job Q, v, a, b. P8: the pump, v, a, b, c.
+-- P9: K and S of two ends.
 pub record BenchFigures : Type 0 where
   pub p4 : fromAbove (num 1) (halved 1 2) (num 10) (num 4) is num 10
   pub p5 : fromAbove (num 1) (halved 1 2) (num 10) (neg (num 4)) is num 10
   pub p6-q : valveFlow (num 1) (num 2) (num 6) (sums (num 14) (num 1)) gives num 4
   pub p6-H : nodeHead (Valve (num 1) (num 2) (num 6)) (sums (num 14) (num 1)) is num 10
-  pub p7-q : valveFlow (num 1) (num 2) (num 6) (sums (num 3) (num 1)) gives neg (num 2)
-  pub p7-H : nodeHead (Valve (num 1) (num 2) (num 6)) (sums (num 3) (num 1)) is num 5
+  pub p7-q : valveFlow (num 1) (num 2) (num 6) (sums (num 3) (num 1)) gives num 0
+  pub p7-H : nodeHead (Valve (num 1) (num 2) (num 6)) (sums (num 3) (num 1)) is num 3
   pub p8-q : pumpFlow (num 1) (num 10) (halved 3 1) (num 0) (sums (num 2) (num 1)) gives num 2
   pub p8-H : nodeHead (Pump (num 1) (num 10) (halved 3 1) (num 0)) (sums (num 2) (num 1)) is num 4
   pub p8-idle-q : pumpFlow (num 0) (num 10) (halved 3 1) (num 0) (sums (num 2) (num 1)) gives num 0
@@ -106,15 +107,33 @@ pub record NodeFigures : Type 0 where
   pub orifice-rounded : orificeFlow (tenths 8) (tenths 15) gives bits 0x3fe8_84a1_af85_d29c
   pub orifice-subnormal : orificeArgument (halved 1 600) (halved 3 476) is bits 4
   pub orifice-z-overflow : orificeFlow (halved 1 20) (power 1023) gives infinity64
-  pub orifice-y-minus-zero : orificeFlow (num 1) (neg (num 0)) gives neg (num 0)
-  pub orifice-w-zero : orificeFlow (num 0) (neg (num 4)) gives num 0
+  -- y not above zero: +0, and nothing is judged, also where w·w is infinite
+  pub orifice-y-zero : orificeFlow (power 600) (num 0) gives num 0
+  pub orifice-y-minus-zero : orificeFlow (power 600) (neg (num 0)) gives num 0
+  pub orifice-y-below-zero : orificeFlow (power 600) (neg (num 1)) gives num 0
+  pub orifice-y-minus-infinite : orificeFlow (num 1) (neg infinity64) gives num 0
+  pub orifice-y-no-number : orificeFlow (num 1) nan gives num 0
+  -- w zero: +0, and nothing is judged
+  pub orifice-w-zero : orificeFlow (num 0) (num 4) gives num 0
   pub orifice-w-minus-zero : orificeFlow (neg (num 0)) (num 4) gives num 0
-  pub orifice-w-zero-y-infinite : orificeFlow (num 0) (neg infinity64) gives num 0
+  pub orifice-w-zero-y-infinite : orificeFlow (num 0) infinity64 gives num 0
   pub valve-root-infinite-q : valveFlow (num 1) (num (10 ^ 200)) (num 6) (sums (num 14) (num 1)) ≡ NotFinite
   pub valve-root-infinite-H : nodeHead (Valve (num 1) (num (10 ^ 200)) (num 6)) (sums (num 14) (num 1)) is infinity64
-  pub valve-shut-y-infinite : nodeHead (Valve (num 0) (num 2) (power 100)) (sums (power 1000) (power 1000)) is num 1
-  pub valve-shut-minus-zero : nodeHead (Valve (num 0) (num 2) (num 6)) (sums (neg (num 0)) (num 1)) is neg (num 0)
-  pub valve-shut-T-infinite : nodeHead (Valve (num 0) (num 2) (num 6)) (sums (num 3) infinity64) is infinity64
+  pub valve-shut-y-infinite : nodeHead (Valve (num 0) (num 2) (neg (power 100))) (sums (power 1000) (power 1000)) is num 1
+  pub valve-shut-minus-zero : nodeHead (Valve (num 0) (num 2) (neg (num 6))) (sums (neg (num 0)) (num 1)) is neg (num 0)
+  pub valve-shut-T-infinite : nodeHead (Valve (num 0) (num 2) (neg (num 6))) (sums (num 3) infinity64) is infinity64
+  -- y = B - T·b not above zero: H is B/T, also where w·w is infinite; B and T are judged all the same
+  pub valve-y-zero-H : nodeHead (Valve (num 1) (power 400) (num 6)) (sums (num 6) (num 1)) is num 6
+  pub valve-y-minus-zero-H : nodeHead (Valve (num 1) (power 400) (num 0)) (sums (neg (num 0)) (num 1)) is neg (num 0)
+  pub valve-y-below-zero-q : valveFlow (num 1) (power 400) (num 6) (sums (num 3) (num 2)) gives num 0
+  pub valve-y-below-zero-H : nodeHead (Valve (num 1) (power 400) (num 6)) (sums (num 3) (num 2)) is halved 3 1
+  pub valve-y-minus-infinite-H : nodeHead (Valve (num 1) (num 2) (power 100)) (sums (power 1000) (power 1000)) is num 1
+  pub valve-y-below-zero-T-infinite : nodeHead (Valve (num 1) (num 2) (num 6)) (sums (num 3) infinity64) is infinity64
+  pub valve-y-below-zero-B-infinite : nodeHead (Valve (num 1) (num 2) (num 6)) (sums (neg infinity64) (num 1)) is infinity64
+  -- y decides, not B/T against b, where rounding makes the two disagree: y is 2^-55 and B/T is b; y is +0 and B/T the next f64 above b
+  pub valve-above-by-y : valveFlow (num 1) (num 2) (tenths 24) (sums (bits 0x3fce_b851_eb85_1eb9) (tenths 1)) gives halved 1 55
+  pub valve-level-by-y-q : valveFlow (num 1) (power 400) (num 6) (sums (bits 0x3fe3_3333_3333_3334) (tenths 1)) gives num 0
+  pub valve-level-by-y-H : nodeHead (Valve (num 1) (power 400) (num 6)) (sums (bits 0x3fe3_3333_3333_3334) (tenths 1)) is bits 0x4018_0000_0000_0001
   pub valve-H-rounded : headLess (Flow (tenths 1)) (sums (tenths 3) (tenths 4)) is bits 0x3fdf_ffff_ffff_ffff
   pub pump-q : pumpFlow (halved 1 1) (num 40) (halved 3 2) (num 2) (sums (num 16) (num 2)) gives num 2
   pub pump-H : nodeHead (Pump (halved 1 1) (num 40) (halved 3 2) (num 2)) (sums (num 16) (num 2)) is num 9

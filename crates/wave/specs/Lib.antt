@@ -2,3 +2,4 @@ pub mod Wave
 pub mod Nodes
 pub mod Adding
 pub mod Figures
+pub mod OpenAir

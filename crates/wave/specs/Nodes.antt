@@ -1,7 +1,7 @@
 -- The nodes: a valve's and a pump's flow, and the head of a node of each kind. Definitions only.
--- Document 01, 'Nodes': v is the node's scheduled value at the step, B and T are its sums.
-use mathlib.Core.Bool.{_&&_, cond}
-use lib.Ieee.{Float, neg, lt, eq}
+-- Document 01, 'Nodes', with document 02, 1/12, for the valve: v is the node's scheduled value at the step, B and T are its sums.
+use mathlib.Core.Bool.{not, _&&_, _||_, cond}
+use lib.Ieee.{Float, lt, eq}
 use lib.Ieee.Scale.{finite}
 use Rattle.fields.specs.Real.{_⊞_, _⊟_, _⊠_, _⊘_, zero64, one64, four64, infinity64}
 use Rattle.root.specs.Root.{rootOf}
@@ -10,13 +10,12 @@ use Rattle.wave.specs.declared.Node.{Node}
 use Rattle.wave.specs.declared.Node.the-variants.{Junction, Reservoir, Valve, Pump}
 use Rattle.wave.specs.declared.Discharge.{Discharge}
 use Rattle.wave.specs.declared.Discharge.the-variants.{Flow, NotFinite}
-use Rattle.wave.specs.Wave.{magnitude}
 
 -- q, where the argument g of the root that it takes is finite
 unfoldable pub rooted : Float → Float → Discharge
 rooted g q = cond (finite g) (Flow q) NotFinite
 
--- ---- kind 2, "valve into a tank of head b, full-open coefficient a, opening v"
+-- ---- kind 2, "valve into a tank of head b, full-open coefficient a, opening v"; by document 02, 1/12, it ends in open air, which "gives nothing back"
 
 -- w. "w = ((v·a)·(v·a))/T"
 unfoldable pub valveW : Float → Float → Float → Float
@@ -34,12 +33,10 @@ orificeArgument w z = w ⊠ w ⊞ four64 ⊠ (w ⊠ z)
 unfoldable pub orificeRate : Float → Float → Float
 orificeRate w z = ((z ⊞ z) ⊠ w) ⊘ (w ⊞ rootOf (orificeArgument w z))
 
--- q, from w and y. "Where w is zero, q = 0. Otherwise z = |y|, .., negated where y < 0."
+-- q, from w and y. Document 02, 1/12: "y not above zero now gives q = 0"; document 01: "Where w is zero, q = 0. Otherwise z = |y|", which is y itself
+-- where y is above zero.
 unfoldable pub orificeFlow : Float → Float → Discharge
-orificeFlow w y =
-    let z = magnitude y in
-    let q = orificeRate w z in
-    cond (eq w zero64) (Flow zero64) (rooted (orificeArgument w z) (cond (lt y zero64) (neg q) q))
+orificeFlow w y = cond (not (lt zero64 y) || eq w zero64) (Flow zero64) (rooted (orificeArgument w y) (orificeRate w y))
 
 unfoldable pub valveFlow : Float → Float → Float → Sums → Discharge
 valveFlow v a b s = orificeFlow (valveW v a (s .t)) (valveY b (s .b) (s .t))
@@ -69,7 +66,8 @@ pumpFlow v a b c s = liftFlow b (s .t) (pumpY (pumpH v a c) (s .b) (s .t))
 
 -- ---- the head
 
--- "H = (B - q)/T" of a valve and "H = (B + q)/T" of a pump; "where .. the argument of a root that is taken is not finite, H is plus infinity"
+-- "H = (B - q)/T" of a valve, which is B/T where q is +0, and "H = (B + q)/T" of a pump; "where .. the argument of a root that is taken is not finite,
+-- H is plus infinity"
 unfoldable pub headLess : Discharge → Sums → Float
 headLess (Flow q) s = (s .b ⊟ q) ⊘ s .t
 headLess NotFinite s = infinity64

@@ -133,22 +133,16 @@ impl Sums {
 
 // ---- the nodes
 
-// q of an opening, by w and y.
+// q of an opening into open air, by w and y: nothing comes back, and a root that is not taken is not judged.
 fn orifice_flow(w: f64, y: f64) -> Discharge
     ensures { λ r. ⌜ r ≡ nodes.orificeFlow w y ⌝ }
 {
-    if w == 0.0 {
+    if !(y > 0.0) | (w == 0.0) {
         return Discharge::Flow(0.0);
     }
-    let z = magnitude(y);
-    let g = w * w + 4.0 * (w * z);
+    let g = w * w + 4.0 * (w * y);
     if fields::is_finite(g) {
-        let q = ((z + z) * w) / (w + root::root_of(g));
-        if y < 0.0 {
-            Discharge::Flow(-q)
-        } else {
-            Discharge::Flow(q)
-        }
+        Discharge::Flow(((y + y) * w) / (w + root::root_of(g)))
     } else {
         Discharge::NotFinite
     }

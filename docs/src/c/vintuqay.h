@@ -11,9 +11,11 @@
 #include <stdint.h>
 
 /* The version of these calls: the first number changes where a program would have to, the second where
- * something is added. */
+ * something is added or heads come out otherwise. Since 1.1 a valve (kind 2) is an outlet into open air
+ * at head b: it lets water out, and nothing back where the head of the main falls below b (B - T*b not
+ * above zero; docs/MANUAL.md, 6). */
 #define VINTUQAY_VERSION_MAJOR 1
-#define VINTUQAY_VERSION_MINOR 0
+#define VINTUQAY_VERSION_MINOR 1
 
 #ifdef __cplusplus
 extern "C" {

@@ -11,7 +11,7 @@ BELIEVED = {
     "loops": "Loops",
     "fields": "Bytes Real",
     "root": "Whole Root Answer",
-    "wave": "Wave Nodes",
+    "wave": "Wave Nodes OpenAir",
     "job": "Job Format Questions Answer",
     "recurrence": "State Step Scan Run Calls Slices Paths Demand Lent Continued",
     "surge": "Answers",

@@ -1,41 +1,33 @@
--- Nothing flows where w is zero; else the root is taken where its argument is finite, and only there, and q has the sign of y: the tests are those of the
+-- Nothing flows where y is not above zero or w is zero; else the root is taken where its argument is finite, and only there: the tests are those of the
 -- definition. Assumes nothing.
-use mathlib.Core.Path.{sym, _∙_}
+use mathlib.Core.Path.{_≡_, refl, sym, _∙_}
+use mathlib.Core.Bool.{true, not, _||_}
 use borrow.Author.Needs.{needs}
+use lib.Ieee.{Float, lt, eq}
+use Rattle.fields.specs.Real.{zero64}
+use Rattle.wave.specs.declared.Discharge.the-variants.{Flow}
 use Rattle.wave.specs.Nodes.{rooted, orificeArgument, orificeRate, orificeFlow}
 use Rattle.wave.proofs.orifice_flow.Statement.{statement}
 use Rattle.wave.proofs.orifice_flow.Tie as tie
 
-returns : tie.Need-returns
+nothing-flows : (w y : Float) → not (lt zero64 y) || eq w zero64 ≡ true → Flow zero64 ≡ orificeFlow w y
 unfolding orificeFlow
-returns c = rw (c .if1 .taken)
+nothing-flows w y e = rw e
+
+returns : tie.Need-returns
+returns c = nothing-flows (c .before .args .w) (c .before .args .y) (c .if1 .taken)
 
 returns-2 : tie.Need-returns-2
 unfolding orificeFlow orificeRate orificeArgument rooted
 returns-2 c =
-    let f = c .before .before .before in
-    rw (c .before .root-of .ensures, ← f .before .magnitude .ensures, f .before .before .if1 .left, sym (f .is-finite .ensures) ∙ c .before .before .if2 .taken, c .if3 .taken)
+    let f = c .before .before in
+    rw (c .root-of .ensures, f .before .if1 .left, sym (f .is-finite .ensures) ∙ c .before .if2 .taken) refl
 
 returns-3 : tie.Need-returns-3
-unfolding orificeFlow orificeRate orificeArgument rooted
-returns-3 c =
-    let f = c .before .before .before in
-    rw (c .before .root-of .ensures, ← f .before .magnitude .ensures, f .before .before .if1 .left, sym (f .is-finite .ensures) ∙ c .before .before .if2 .taken, c .if3 .left)
-
-returns-4 : tie.Need-returns-4
 unfolding orificeFlow orificeArgument rooted
-returns-4 c =
+returns-3 c =
     let f = c .before in
-    rw (← f .before .magnitude .ensures, f .before .before .if1 .left, sym (f .is-finite .ensures) ∙ c .if2 .left)
+    rw (f .before .if1 .left, sym (f .is-finite .ensures) ∙ c .if2 .left)
 
 pub orifice-flow-spec : {M : Type 1} → statement M
-orifice-flow-spec =
-    tie.close
-    (tie.spec
-    returns
-    (λ c κs. search needs)
-    (λ c κs. search needs)
-    (λ c κs. search needs)
-    returns-2
-    returns-3
-    returns-4)
+orifice-flow-spec = tie.close (tie.spec returns (λ c κs. search needs) (λ c κs. search needs) returns-2 returns-3)

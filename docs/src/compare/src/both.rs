@@ -2,6 +2,7 @@
 
 use crate::cases::{self, Call};
 use crate::ours::{self, Answer};
+use crate::outlets;
 use crate::tally::Tally;
 use reference::generate::Random;
 use reference::reader;
@@ -46,7 +47,7 @@ impl Lent {
         }
     }
 
-    fn rows(&mut self) -> Rows<'_> {
+    pub fn rows(&mut self) -> Rows<'_> {
         let lengths = self.lengths;
         let [heads, flows, highest, lowest, spare] = &mut self.store.rows;
         Rows {
@@ -81,6 +82,9 @@ pub fn run_on(tally: &mut Tally, job: &[u8], done: u64, count: u64, lent: &mut L
     same("run-on", job, answer, expected, lent, &other);
     tally.count("run-ons", 1);
     cases::count(tally, job, Call::RunOn(count), &before, answer);
+    if count > 0 && matches!(answer.number, 0 | 40 | 41) {
+        outlets::count(tally, job, done + 1, before);
+    }
     tally.answer(answer)
 }
 

@@ -2,12 +2,13 @@
 //!
 //! - [`ours`]: the C interface; [`both`]: a call of both, compared in every bit.
 //! - [`parts`]: what is compared; [`tally`]: how many of each, and which numbers were reached;
-//!   [`cases`]: which cases of the lent slices were.
+//!   [`cases`], [`outlets`]: which cases of the lent slices and of the valves were.
 //! - [`distance`]: how far each section is from a node, for demand 3.
 
 pub mod both;
 pub mod cases;
 pub mod distance;
 pub mod ours;
+pub mod outlets;
 pub mod parts;
 pub mod tally;

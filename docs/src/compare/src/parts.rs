@@ -1,6 +1,6 @@
 //! What is compared, each part with a seed of its own.
 
-use crate::cases;
+use crate::{cases, outlets};
 
 mod calls;
 mod edits;
@@ -11,7 +11,7 @@ mod roots;
 
 pub use calls::calls;
 pub use edits::edits;
-pub use jobs::{damaged_jobs, sound_and_odd_jobs};
+pub use jobs::{accepted_jobs, damaged_jobs};
 pub use lines::{lines, listings};
 pub use lists::lists;
 pub use roots::roots;
@@ -19,6 +19,7 @@ pub use roots::roots;
 /// What must be counted at least once for the comparison to pass.
 pub fn to_be_reached() -> Vec<&'static str> {
     let mut cases = cases::all();
+    cases.extend(outlets::all());
     cases.extend([lists::SPARE_TOO_SHORT, edits::SHARP]);
     cases
 }

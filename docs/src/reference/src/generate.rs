@@ -1,14 +1,16 @@
 //! Jobs at random, the same ones from the same seed: sound ones, odd ones that are accepted all
-//! the same, and damaged ones.
+//! the same, ones near rest at their outlets, and damaged ones.
 
 mod damaged;
 mod network;
 mod odd;
+mod outlets;
 mod random;
 mod sound;
 
 pub use damaged::{damaged, damaged_anywhere};
 pub use odd::odd;
+pub use outlets::outlets;
 pub use random::Random;
 pub use sound::sound;
 

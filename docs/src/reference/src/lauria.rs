@@ -23,7 +23,7 @@ const STEPS: u32 = 113;
 /// Table 4 as the scan has it.
 const PRINTED: &str = include_str!("../samples/lauria-table-4.txt");
 
-/// The job: the valve's a is CdA·√(2g), its tank is at 0 m, and the state at first is steady.
+/// The job: the valve's a is CdA·√(2g), its outlet is at 0 m, and the state at first is steady.
 pub fn draft() -> Draft {
     let a = VALVE_AREA * (2.0 * PIPE.gravity).sqrt();
     // Steady flow: Q² = a²·H at the valve, and H = level - reaches·R·Q²/S.

@@ -2,7 +2,7 @@
 
 use crate::job::Kind;
 use crate::root::root;
-use crate::wave::{magnitude, Sums};
+use crate::wave::Sums;
 
 /// The root where an equation takes it; `None` where its argument is not finite. The arguments of
 /// both equations are never below zero.
@@ -37,7 +37,15 @@ pub fn head_by(root: impl Fn(f64) -> Option<f64>, kind: Kind, v: f64, sums: Sums
     }
 }
 
-/// q through a valve of opening `v`, out of the node; `None` where a root cannot be taken.
+/// w and y of a valve of opening `v`.
+#[inline(always)]
+pub fn valve_w_y(v: f64, a: f64, b: f64, sums: Sums) -> (f64, f64) {
+    let Sums { b: sum_k, t } = sums;
+    (((v * a) * (v * a)) / t, sum_k - t * b)
+}
+
+/// q through a valve of opening `v`, out of the node into open air: nothing comes back where y is not
+/// above zero. `None` where a root cannot be taken.
 #[inline(always)]
 fn valve_flow(
     root: impl Fn(f64) -> Option<f64>,
@@ -46,16 +54,14 @@ fn valve_flow(
     b: f64,
     sums: Sums,
 ) -> Option<f64> {
-    let Sums { b: sum_k, t } = sums;
-    let w = ((v * a) * (v * a)) / t;
-    let y = sum_k - t * b;
-    if w == 0.0 {
-        return Some(0.0);
+    let (w, y) = valve_w_y(v, a, b, sums);
+    if y > 0.0 && w != 0.0 {
+        // z = |y| is y.
+        let r = root(w * w + 4.0 * (w * y))?;
+        Some(((y + y) * w) / (w + r))
+    } else {
+        Some(0.0)
     }
-    let z = magnitude(y);
-    let r = root(w * w + 4.0 * (w * z))?;
-    let q = ((z + z) * w) / (w + r);
-    Some(if y < 0.0 { -q } else { q })
 }
 
 /// q from a pump of speed `v`, into the node; `None` where a root cannot be taken.
@@ -92,8 +98,9 @@ mod tests {
     fn p6_and_p7() {
         assert_eq!(valve_flow(root_taken, 1.0, 2.0, 6.0, sums(14.0, 1.0)), Some(4.0));
         assert_eq!(head(VALVE_OF_Q, 1.0, sums(14.0, 1.0)), 10.0);
-        assert_eq!(valve_flow(root_taken, 1.0, 2.0, 6.0, sums(3.0, 1.0)), Some(-2.0));
-        assert_eq!(head(VALVE_OF_Q, 1.0, sums(3.0, 1.0)), 5.0);
+        // As document 02, 1/12, has it.
+        assert_eq!(valve_flow(root_taken, 1.0, 2.0, 6.0, sums(3.0, 1.0)), Some(0.0));
+        assert_eq!(head(VALVE_OF_Q, 1.0, sums(3.0, 1.0)), 3.0);
     }
 
     #[test]
@@ -122,14 +129,39 @@ mod tests {
 
     #[test]
     fn a_root_not_taken_is_not_judged() {
-        // A shut valve whose T·b passes every f64, and a pump whose head does, downwards.
-        let shut = Kind::Valve { a: 1e200, b: 1e300 };
+        // A shut valve whose y passes every f64, and a pump whose head does, downwards.
+        let shut = Kind::Valve { a: 1e200, b: -1e300 };
         assert_eq!(head(shut, 0.0, sums(2.0, 1e20)), 2e-20);
         let deep = Kind::Pump { a: 0.0, b: 1.0, c: -1e300 };
         assert_eq!(head(deep, 1.0, sums(2.0, 1e20)), 2e-20);
         // y is zero, and b·T passes every f64.
         let idle = Kind::Pump { a: 0.0, b: 1e300, c: 0.0 };
         assert_eq!(head(idle, 1.0, sums(0.0, 1e20)), 0.0);
+    }
+
+    #[test]
+    fn nothing_comes_back_out_of_open_air() {
+        // w·w passes every f64; y is +0, -0, below zero and minus infinity.
+        let wide = |b| Kind::Valve { a: 1e200, b };
+        assert_eq!(head(wide(6.0), 1.0, sums(6.0, 1.0)), 6.0);
+        assert_eq!(head(wide(0.0), 1.0, sums(-0.0, 1.0)).to_bits(), (-0.0_f64).to_bits());
+        assert_eq!(head(wide(6.0), 1.0, sums(3.0, 2.0)), 1.5);
+        assert_eq!(head(wide(1e300), 1.0, sums(2.0, 1e20)), 2e-20);
+        // q is +0: B = -0 keeps its sign.
+        assert_eq!(head(VALVE_OF_Q, 1.0, sums(-0.0, 1.0)).to_bits(), (-0.0_f64).to_bits());
+    }
+
+    /// T·b is 0.24 and B the next f64, so y > 0; B/T is b all the same. T·b and B are 0.6 rounded up, so
+    /// y = 0; B/T lies above b.
+    #[test]
+    fn y_decides_and_not_the_quotient() {
+        let above = sums(f64::from_bits((0.1_f64 * 2.4).to_bits() + 1), 0.1);
+        assert_eq!(above.b / above.t, 2.4);
+        let q = valve_flow(root_taken, 1.0, 2.0, 2.4, above);
+        assert_eq!(q, Some(2.0_f64.powi(-55)));
+        let level = sums(0.1 * 6.0, 0.1);
+        assert!(level.b / level.t > 6.0);
+        assert_eq!(valve_flow(root_taken, 1.0, 1e200, 6.0, level), Some(0.0));
     }
 
     #[test]

@@ -119,8 +119,8 @@ fn work_out(job: &Job, step: u64, rows: &Rows<'_>) -> Vec<Point> {
     new
 }
 
-/// H of each node at the step, its sums taken in rising pipe number.
-fn node_heads(job: &Job, step: u64, rows: &Rows<'_>) -> Vec<f64> {
+/// B and T of each node, from the old state, in rising pipe number.
+pub fn sums(job: &Job, rows: &Rows<'_>) -> Vec<Sums> {
     let mut sums = vec![Sums::ZERO; job.nodes.len()];
     for pipe in &job.pipes {
         let k = start_k(cm(job, pipe, 0, rows));
@@ -128,7 +128,12 @@ fn node_heads(job: &Job, step: u64, rows: &Rows<'_>) -> Vec<f64> {
         let k = finish_k(cp(job, pipe, pipe.reaches, rows));
         sums[pipe.finish] = sums[pipe.finish].and(k, pipe.s);
     }
-    let nodes = job.nodes.iter().zip(sums);
+    sums
+}
+
+/// H of each node at the step.
+fn node_heads(job: &Job, step: u64, rows: &Rows<'_>) -> Vec<f64> {
+    let nodes = job.nodes.iter().zip(sums(job, rows));
     nodes.map(|(node, sums)| node::head(node.kind, node.value_at(step), sums)).collect()
 }
 

@@ -30,6 +30,11 @@ pub fn all() -> Vec<Sample> {
             branches_and_loop(),
         ),
         sample(
+            "ditch-outlet",
+            "A main to an outlet over a ditch: a hydrant takes the head below the outlet, which then draws nothing.",
+            ditch_outlet(),
+        ),
+        sample(
             "stops-as-40",
             "A friction a thousand times too large: the flows run away and the run stops as 40 (notfinite).",
             friction_too_large(),
@@ -116,6 +121,34 @@ fn rising_main(speeds: &[f64]) -> Draft {
         let along = f64::from(place);
         let elevation = 38.0 * along / f64::from(reaches);
         draft.section(head - along * pipe.loss(flow), flow, elevation - 10.0);
+    }
+    draft
+}
+
+/// 800 m from a reservoir at 20 m to an outlet over a ditch at 18 m, which discharges 4 l/s at first. A
+/// hydrant half way takes 12 l/s from step 21 on; from step 25 on the head at the outlet is below the
+/// ditch.
+fn ditch_outlet() -> Draft {
+    let pipe = PipeFigures {
+        gravity: 9.81,
+        wave_speed: 1000.0,
+        diameter: 0.3,
+        friction_factor: 0.02,
+        step_time: 0.1,
+    };
+    let (reaches, flow, level, ditch) = (4_u16, 0.004, 20.0_f64, 18.0);
+    let outlet_head = level - f64::from(2 * reaches) * pipe.loss(flow);
+    let mut draws = vec![0.0; 20];
+    draws.push(0.012);
+    let mut draft = Draft { steps: 30, ..Draft::default() };
+    let reservoir = draft.node(DraftNode::reservoir(&[level]));
+    let hydrant = draft.node(DraftNode::junction(&draws));
+    let a = flow / (outlet_head - ditch).sqrt();
+    let outlet = draft.node(DraftNode::valve(a, ditch, &[1.0]));
+    draft.pipe(reservoir, hydrant, reaches, pipe.s(), pipe.r());
+    draft.pipe(hydrant, outlet, reaches, pipe.s(), pipe.r());
+    for place in (0..=reaches).chain(reaches..=2 * reaches) {
+        draft.section(level - f64::from(place) * pipe.loss(flow), flow, 5.0);
     }
     draft
 }

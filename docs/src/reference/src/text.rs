@@ -13,7 +13,8 @@
 //!
 //! Pipes, nodes and sections are numbered from 0 in the order of their lines; reaches and sections
 //! go pipe by pipe, and the schedules are in node order. `times` repeats a reach or a section. What
-//! follows `#` is a remark. Numbers written here read back to the same bits.
+//! follows `#` is a remark. Numbers written here read back to the same bits. A valve's b is the head
+//! of its outlet into open air: water goes out there, and none comes back.
 
 mod parse;
 mod write;
@@ -23,6 +24,9 @@ pub use write::{number, to_text};
 
 /// The word for each kind of node, by its number, and how many of a, b and c it names.
 const KINDS: [(&str, usize); 4] = [("junction", 0), ("reservoir", 0), ("valve", 2), ("pump", 3)];
+/// For whoever wrote another word.
+const KINDS_IN_WORDS: &str = "the kinds are junction, reservoir, \
+    valve (an outlet into open air at head b; nothing comes back) and pump (with a non-return valve)";
 const FIGURES: [&str; 3] = ["a", "b", "c"];
 
 #[cfg(test)]
@@ -58,8 +62,9 @@ mod tests {
 
     #[test]
     fn a_line_that_does_not_read_is_named() {
+        let tank = format!("line 2: `tank` is no kind of node; {KINDS_IN_WORDS}");
         for (text, words) in [
-            ("steps 1\nnode tank", "line 2: `tank` is no kind of node"),
+            ("steps 1\nnode tank", tank.as_str()),
             ("steps -1", "line 1: `-1` does not fit as steps"),
             ("pipe from 0 to 1 reaches 2", "line 1: `S` is missing"),
             ("reach R 0 times 2 3", "line 1: `3` is one word too many"),

@@ -2,7 +2,7 @@
 
 use reference::baseline;
 use reference::draft::{Draft, DraftNode};
-use reference::generate::{cut_up, damaged, damaged_anywhere, odd, sound, Random};
+use reference::generate::{cut_up, damaged, damaged_anywhere, odd, outlets, sound, Random};
 use reference::refusal::Refused;
 use reference::rows::{RowStore, Rows, LONGEST, ROWS, SPARE};
 use reference::run::{self, start, Cause, Ran, Stop};
@@ -60,6 +60,17 @@ fn on_odd_jobs() {
     let mut stopped = 0;
     for _ in 0..3000 {
         let draft = odd(&mut random);
+        stopped += run_cut_up(&mut random, &draft);
+    }
+    assert!(stopped > 100, "{stopped} calls stopped");
+}
+
+#[test]
+fn on_outlets() {
+    let mut random = Random::new(12);
+    let mut stopped = 0;
+    for _ in 0..3000 {
+        let draft = outlets(&mut random);
         stopped += run_cut_up(&mut random, &draft);
     }
     assert!(stopped > 100, "{stopped} calls stopped");

@@ -1,5 +1,5 @@
-//! Figures worked out by hand from document 01, each chosen so that a slip which P1 to P10 let
-//! through gives another one.
+//! Figures worked out from documents 01 and 02, by hand or by docs/src/vectors, each chosen so that a
+//! slip which P1 to P10 let through gives another one.
 
 use reference::draft::{Draft, DraftNode};
 use reference::job::Kind;
@@ -77,12 +77,12 @@ fn sums_are_taken_in_rising_pipe_number() {
 }
 
 /// w = (0.5·4)²/2 = 2; y = 6 - 2·1 = 4; r = root(4 + 4·8) = 6; q = 8·2/8 = 2; H = (6 - 2)/2.
-/// With B = -2: y = -4, q = -2, H = 0.
+/// With B = -2: y = -4, q = 0, H = -2/2.
 #[test]
 fn a_valve_with_t_of_2() {
     let valve = Kind::Valve { a: 4.0, b: 1.0 };
     assert_eq!(head(valve, 0.5, Sums { b: 6.0, t: 2.0 }), 2.0);
-    assert_eq!(head(valve, 0.5, Sums { b: -2.0, t: 2.0 }), 0.0);
+    assert_eq!(head(valve, 0.5, Sums { b: -2.0, t: 2.0 }), -1.0);
 }
 
 /// h = 3 + 0.25·28 = 10; y = 2·10 - 12 = 8; b·T = 1.5; q = 16/(1 + root(1 + 48)) = 2;
@@ -153,4 +153,30 @@ fn valve_and_pump_multiply_in_the_written_order() {
     let t = 2.0_f64.powi(1021);
     let pump = Kind::Pump { a: 8.0 / t, b: 1.5 / t, c: 0.0 };
     assert_eq!(head(pump, 1.0, Sums { b: 0.0, t }), 2.0 / t);
+}
+
+/// The heads and flows of two pipes over three steps, worked out by docs/src/vectors/steps.py. The
+/// valve discharges at steps 1 and 2; at step 3 y is about -0.52, and its head is B/T.
+#[test]
+fn a_valve_that_discharges_twice_and_then_draws_nothing() {
+    let mut draft = Draft::default();
+    let upper = draft.node(DraftNode::reservoir(&[11.0, 5.0]));
+    let joint = draft.node(DraftNode::junction(&[0.5]));
+    let lower = draft.node(DraftNode::valve(2.0, 6.0, &[1.0, 0.5]));
+    draft.pipe(upper, joint, 1, 2.0, 0.25);
+    draft.pipe(joint, lower, 3, 0.7, 0.0);
+    draft.friction = vec![0.25, 0.5, 0.125, 0.0625];
+    for [head, flow] in [[13.0, 4.0], [11.0, 1.0], [11.0, 4.0], [9.0, 4.0], [7.0, 5.0], [7.0, 4.0]]
+    {
+        draft.section(head, flow, -100.0);
+    }
+    let ends = [
+        (0x401f_be19_9860_0ddd, 0x4006_42a8_f779_862e),
+        (0x4021_412c_d6ff_e0c3, 0x3ff9_ef2d_db5c_d7e8),
+        (0x4015_0b87_0455_2875, 0xbcc0_0000_0000_0000),
+    ];
+    for (count, end) in (1..).zip(ends) {
+        let store = after(&draft, count);
+        assert_eq!((store.heads()[5].to_bits(), store.flows()[5].to_bits()), end, "step {count}");
+    }
 }

@@ -49,6 +49,7 @@ fn samples_end_as_they_say() {
         ("job-q", "done 1"),
         ("rising-main", "done 600"),
         ("branches-and-loop", "done 400"),
+        ("ditch-outlet", "done 30"),
         ("stops-as-40", "notfinite 8 0"),
         ("stops-as-41", "parted 4 3"),
         ("lauria", "done 113"),

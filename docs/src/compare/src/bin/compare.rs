@@ -12,7 +12,7 @@ fn main() {
     for case in parts::to_be_reached() {
         tally.count(case, 0);
     }
-    parts::sound_and_odd_jobs(&mut tally);
+    parts::accepted_jobs(&mut tally);
     parts::damaged_jobs(&mut tally);
     parts::calls(&mut tally);
     parts::lists(&mut tally);

@@ -3,12 +3,12 @@
 use crate::both::{self, Lent};
 use crate::tally::Tally;
 use reference::draft::Draft;
-use reference::generate::{cut_up, damaged, damaged_anywhere, odd, sound, Random};
+use reference::generate::{cut_up, damaged, damaged_anywhere, odd, outlets, sound, Random};
 use reference::rows::LONGEST;
 
 /// Read, started and run on in several calls, into rows of NaNs with some entries past those in
 /// use, and with anything in the spare.
-pub fn sound_and_odd_jobs(tally: &mut Tally) {
+pub fn accepted_jobs(tally: &mut Tally) {
     let mut random = Random::new(101);
     for _ in 0..6000 {
         let draft = sound(&mut random);
@@ -19,6 +19,11 @@ pub fn sound_and_odd_jobs(tally: &mut Tally) {
         let draft = odd(&mut random);
         run(tally, &mut random, &draft);
         tally.count("odd jobs", 1);
+    }
+    for _ in 0..4000 {
+        let draft = outlets(&mut random);
+        run(tally, &mut random, &draft);
+        tally.count("jobs near rest at their outlets", 1);
     }
 }
 

@@ -56,7 +56,7 @@ fn schedule(random: &mut Random, figures: Figures, least: f64, most: f64) -> Vec
 
 fn node(random: &mut Random, figures: Figures) -> DraftNode {
     let kind = random.below(4);
-    let [draw, level, coefficient, tank, shut_off, curve, sump] = match figures {
+    let [draw, level, coefficient, outlet, shut_off, curve, sump] = match figures {
         Figures::Engineer => [0.02, 100.0, 0.05, 50.0, 100.0, 2000.0, 20.0],
         Figures::Small => [4.0, 16.0, 4.0, 8.0, 20.0, 2.0, 4.0],
     };
@@ -65,7 +65,7 @@ fn node(random: &mut Random, figures: Figures) -> DraftNode {
         1 => DraftNode::reservoir(&schedule(random, figures, level / 2.0, level)),
         2 => {
             let a = number(random, figures, 0.0, coefficient);
-            let b = number(random, figures, 0.0, tank);
+            let b = number(random, figures, 0.0, outlet);
             DraftNode::valve(a, b, &schedule(random, figures, 0.0, 1.0))
         }
         _ => {
@@ -127,14 +127,16 @@ fn shorten_schedules(draft: &mut Draft, most_bytes: usize) {
 
 #[cfg(test)]
 mod tests {
-    use super::super::odd;
+    use super::super::{odd, outlets};
     use super::*;
     use crate::listing::listing;
     use crate::reader::read;
     use std::collections::BTreeSet;
 
+    type Make = fn(&mut Random) -> Draft;
+
     /// The jobs' sizes and the first words of their last lines.
-    fn met(make: fn(&mut Random) -> Draft, seed: u64) -> (BTreeSet<usize>, BTreeSet<String>) {
+    fn met(make: Make, seed: u64) -> (BTreeSet<usize>, BTreeSet<String>) {
         let mut random = Random::new(seed);
         let (mut pipes, mut ends) = (BTreeSet::new(), BTreeSet::new());
         for _ in 0..1500 {
@@ -150,10 +152,10 @@ mod tests {
     }
 
     #[test]
-    fn sound_and_odd_jobs_are_accepted_and_end_in_every_way() {
-        for (make, seed) in [(sound as fn(&mut Random) -> Draft, 4), (odd, 5)] {
+    fn jobs_are_accepted_and_end_in_every_way() {
+        for (make, seed, most_pipes) in [(sound as Make, 4, 32), (odd, 5, 32), (outlets, 6, 6)] {
             let (pipes, ends) = met(make, seed);
-            assert_eq!(pipes, (1..=32).collect());
+            assert_eq!(pipes, (1..=most_pipes).collect());
             assert_eq!(ends, ["done", "notfinite", "parted"].map(String::from).into());
         }
     }

@@ -1,6 +1,6 @@
 //! A job from its text.
 
-use super::{FIGURES, KINDS};
+use super::{FIGURES, KINDS, KINDS_IN_WORDS};
 use crate::draft::{Draft, DraftNode, DraftPipe};
 use std::str::{FromStr, SplitWhitespace};
 
@@ -97,7 +97,7 @@ fn pipe(words: &mut Words<'_>) -> Result<DraftPipe, String> {
 fn node(words: &mut Words<'_>) -> Result<DraftNode, String> {
     let word: String = words.value("node")?;
     let kind = KINDS.iter().position(|&(name, _)| name == word);
-    let kind = kind.ok_or(format!("`{word}` is no kind of node"))?;
+    let kind = kind.ok_or(format!("`{word}` is no kind of node; {KINDS_IN_WORDS}"))?;
     let mut figures = [0.0; 3];
     for (name, figure) in FIGURES.iter().zip(&mut figures).take(KINDS[kind].1) {
         *figure = words.named(name)?;
