@@ -207,15 +207,16 @@ pub record StepFigures : Type 0 where
   pub closing-3 : ranOn jobQClosing 3 .rows heads are row (num 10) (num 14) (num 14)
   -- and a run-on with m = 1 begins at step 2
   pub closing-from-1 : runOnCall jobQClosing 1 1 (startCall jobQClosing lentSevens .rows) .rows heads are row (num 10) (num 10) (num 14)
-  -- R of each reach, S of each pipe, each kind's value of the step; at step 3 the valve's end has K - S·H, which is q but for rounding
-  pub heads-1 : after twoPipes 1 heads ≡ 0x4026_0000_0000_0000 ∷ 0x402a_84bd_a12f_684b ∷ 0x402a_84bd_a12f_684b ∷ 0x4013_36db_6db6_db6d ∷ 0x401d_2492_4924_9249 ∷ 0x401f_be19_9860_0ddd ∷ []
-  pub flows-1 : after twoPipes 1 flows ≡ 0x3fe8_0000_0000_0000 ∷ 0xbfe0_97b4_25ed_0960 ∷ 0xbff0_4bda_12f6_84c8 ∷ 0x3fd5_9999_9999_9998 ∷ 0x4009_9999_9999_999b ∷ 0x4006_42a8_f779_862e ∷ []
-  pub heads-2 : after twoPipes 2 heads ≡ 0x4014_0000_0000_0000 ∷ 0x4022_a905_b05b_05b0 ∷ 0x4022_a905_b05b_05b0 ∷ 0x4021_168c_2011_0439 ∷ 0x4013_d5a1_d2ab_b893 ∷ 0x4021_412c_d6ff_e0c3 ∷ []
-  pub flows-2 : after twoPipes 2 flows ≡ 0xc030_f846_3bb2_be54 ∷ 0x400f_97d2_7d27_d280 ∷ 0x400b_97d2_7d27_d27d ∷ 0x4006_6817_b5f2_34c8 ∷ 0x3fcb_7c14_9b36_e3c0 ∷ 0x3ff9_ef2d_db5c_d7e8 ∷ []
-  pub heads-3 : after twoPipes 3 heads ≡ 0x4014_0000_0000_0000 ∷ 0x403a_8739_af8d_76ac ∷ 0x403a_8739_af8d_76ac ∷ 0x4014_d711_63b1_acec ∷ 0x4021_b0d2_0d5c_3858 ∷ 0x4015_0b87_0455_2875 ∷ []
-  pub flows-3 : after twoPipes 3 flows ≡ 0xc021_3854_ca04_cdd0 ∷ 0x4027_ef54_9908_1020 ∷ 0x4026_ef54_9908_1020 ∷ 0x3fd8_a2e5_2fe1_08f0 ∷ 0x3ff9_bfce_39e2_0530 ∷ 0xbcc0_0000_0000_0000 ∷ []
+  -- R of each reach, S of each pipe, each kind's value of the step; at steps 1 and 2 the valve's end has K - S·H, which is q but for rounding. With the
+  -- root cut down section 5, the valve's, would have another head at step 1, section 4 at step 2, sections 3 and 5 at step 3.
+  pub heads-1 : after twoPipes 1 heads ≡ 0x4026_0000_0000_0000 ∷ 0x402a_84bd_a12f_684b ∷ 0x402a_84bd_a12f_684b ∷ 0x4013_36db_6db6_db6d ∷ 0x401d_2492_4924_9249 ∷ 0x401f_be19_9860_0ddf ∷ []
+  pub flows-1 : after twoPipes 1 flows ≡ 0x3fe8_0000_0000_0000 ∷ 0xbfe0_97b4_25ed_0960 ∷ 0xbff0_4bda_12f6_84c8 ∷ 0x3fd5_9999_9999_9998 ∷ 0x4009_9999_9999_999b ∷ 0x4006_42a8_f779_862c ∷ []
+  pub heads-2 : after twoPipes 2 heads ≡ 0x4014_0000_0000_0000 ∷ 0x4022_a905_b05b_05b0 ∷ 0x4022_a905_b05b_05b0 ∷ 0x4021_168c_2011_0439 ∷ 0x4013_d5a1_d2ab_b894 ∷ 0x4021_412c_d6ff_e0c3 ∷ []
+  pub flows-2 : after twoPipes 2 flows ≡ 0xc030_f846_3bb2_be54 ∷ 0x400f_97d2_7d27_d280 ∷ 0x400b_97d2_7d27_d27d ∷ 0x4006_6817_b5f2_34c8 ∷ 0x3fcb_7c14_9b36_e3a8 ∷ 0x3ff9_ef2d_db5c_d7e8 ∷ []
+  pub heads-3 : after twoPipes 3 heads ≡ 0x4014_0000_0000_0000 ∷ 0x403a_8739_af8d_76ac ∷ 0x403a_8739_af8d_76ac ∷ 0x4014_d711_63b1_acee ∷ 0x4021_b0d2_0d5c_3858 ∷ 0x4015_0b87_0455_2874 ∷ []
+  pub flows-3 : after twoPipes 3 flows ≡ 0xc021_3854_ca04_cdd0 ∷ 0x4027_ef54_9908_1020 ∷ 0x4026_ef54_9908_1020 ∷ 0x3fd8_a2e5_2fe1_08e4 ∷ 0x3ff9_bfce_39e2_0530 ∷ 0 ∷ []
   pub highest-3 : after twoPipes 3 highest ≡ 0x402a_0000_0000_0000 ∷ 0x403a_8739_af8d_76ac ∷ 0x403a_8739_af8d_76ac ∷ 0x4022_0000_0000_0000 ∷ 0x4021_b0d2_0d5c_3858 ∷ 0x4021_412c_d6ff_e0c3 ∷ []
-  pub lowest-3 : after twoPipes 3 lowest ≡ 0x4014_0000_0000_0000 ∷ 0x4022_a905_b05b_05b0 ∷ 0x4022_a905_b05b_05b0 ∷ 0x4013_36db_6db6_db6d ∷ 0x4013_d5a1_d2ab_b893 ∷ 0x4015_0b87_0455_2875 ∷ []
+  pub lowest-3 : after twoPipes 3 lowest ≡ 0x4014_0000_0000_0000 ∷ 0x4022_a905_b05b_05b0 ∷ 0x4022_a905_b05b_05b0 ∷ 0x4013_36db_6db6_db6d ∷ 0x4013_d5a1_d2ab_b894 ∷ 0x4015_0b87_0455_2874 ∷ []
   -- y decides, not B/T against b. At 6 y is +0 and B/T the next f64 above b: nothing is drawn or judged, and H is B/T. At 2.4 y is 2^-55 and B/T is b: the
   -- root is judged.
   pub outlet-level : after (outletAt (num 6) (num 0)) 1 heads ≡ 0x4018_0000_0000_0000 ∷ 0x4018_0000_0000_0001 ∷ []

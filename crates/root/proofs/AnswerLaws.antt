@@ -1,7 +1,8 @@
 -- `rootOf` by the argument's pattern, and what follows of the call's answer. Assumes nothing.
 use mathlib.Core.Path.{_≡_, refl, sym, ap, ap₂, _∙_, subst}
 use Prim.Native.Nat.{ℕ, zero, suc, _+_, _-_, _*_, _/_, _%_, _^_, _≤_, _<_}
-use native.Mathlib.Nat.{not-le-of-lt}
+use mathlib.Core.Logic.{⊎-elim}
+use native.Mathlib.Nat.{not-le-of-lt, eq-or-lt-of-le, mul-assoc, pow-succ'}
 use native.Mathlib.Omega.{arith}
 use mathlib.Core.Bool.{Bool, true, false, not, cond, true≢false}
 use lib.Dec.{T, ltb, not-T, ltb→lt}
@@ -10,10 +11,10 @@ use lib.Ieee.{Float, nan, inf, fin, binary64, size, fits, isNan, ne, lt, div, of
 use lib.Ieee.Bits.{ofBits-fits, nanBits-above}
 use lib.Ieee.Compare.{differs-from-itself, nan-differs}
 use Rattle.fields.proofs.OwnRounding.{one-value}
-use Rattle.root.specs.Root.{rootable, IsRoot, cutPlaces, rootUnits, rootOf}
+use Rattle.root.specs.Root.{rootable, IsRoot, cutPlaces, rootDigits, rootUnits, rootOf}
 use Rattle.root.specs.Digits.{unitsAt, unitsOf, rootPattern}
 use Rattle.root.proofs.Patterns.{Counts, pattern-counts, units-pos, count-below, plus-pattern, minus-zero-pattern}
-use Rattle.root.proofs.Lead.{lead, lead-low, lead-high, few, enough, not-many, units-count, units-held}
+use Rattle.root.proofs.LeadingDigits.{digits-low, digits-high, few, enough, not-many, units-count, units-held}
 use Rattle.root.proofs.Relation.{rootOf-is, root-is}
 use Rattle.root.proofs.Rootable.{plus-rootable, minus-not-rootable}
 use Rattle.root.specs.Answer.{refused, value, rootAnswer}
@@ -53,27 +54,37 @@ units-answer (inf s) u c = absurd c
 units-answer (fin true m e) u c = absurd (true≢false (c .0))
 units-answer (fin false m e) u c = sym (rootOf-is false m e u (plus-rootable m e) (c .1))
 
-lead-units : (k q : ℕ) → 2 ^ 52 ≤ q → q < 2 ^ 53 → unitsOf (k * 2 ^ 52 + q) ≡ q * 2 ^ k
-lead-units k q lo hi =
-    let a : (k * 2 ^ 52 + q) / 2 ^ 52 ≡ suc k = omega arith in
-    let b : (k * 2 ^ 52 + q) % 2 ^ 52 ≡ q - 2 ^ 52 = omega arith in
-    let c : 2 ^ 52 + (q - 2 ^ 52) ≡ q = omega arith in
-    ap₂ unitsAt a b ∙ ap (λ (x : ℕ). x * 2 ^ k) c
+lead-units : (k q : ℕ) → 2 ^ 52 ≤ q → q ≤ 2 ^ 53 → unitsOf (k * 2 ^ 52 + q) ≡ q * 2 ^ k
+lead-units k q lo hi = ⊎-elim (λ (e : q ≡ 2 ^ 53). subst (λ (z : ℕ). unitsOf (k * 2 ^ 52 + z) ≡ z * 2 ^ k) (sym e) carried) plain (eq-or-lt-of-le hi)
+  where
+    plain : q < 2 ^ 53 → unitsOf (k * 2 ^ 52 + q) ≡ q * 2 ^ k
+    plain l =
+        let a : (k * 2 ^ 52 + q) / 2 ^ 52 ≡ suc k = omega arith in
+        let b : (k * 2 ^ 52 + q) % 2 ^ 52 ≡ q - 2 ^ 52 = omega arith in
+        let c : 2 ^ 52 + (q - 2 ^ 52) ≡ q = omega arith in
+        ap₂ unitsAt a b ∙ ap (λ (x : ℕ). x * 2 ^ k) c
 
-pattern-is : (n : ℕ) → rootPattern n ≡ cutPlaces n * 2 ^ 52 + lead n
+    -- 2 ^ 53 carries into the exponent's field
+    carried : unitsOf (k * 2 ^ 52 + 2 ^ 53) ≡ 2 ^ 53 * 2 ^ k
+    carried =
+        let a : (k * 2 ^ 52 + 2 ^ 53) / 2 ^ 52 ≡ suc (suc k) = omega arith in
+        let b : (k * 2 ^ 52 + 2 ^ 53) % 2 ^ 52 ≡ 0 = omega arith in
+        ap₂ unitsAt a b ∙ ap (λ (x : ℕ). 2 ^ 52 * x) (pow-succ' 2 k) ∙ sym (mul-assoc (2 ^ 52) 2 (2 ^ k))
+
+pattern-parts : (n : ℕ) → rootPattern n ≡ cutPlaces n * 2 ^ 52 + rootDigits n
 unfolding rootPattern
-pattern-is n = refl
+pattern-parts n = refl
 
 module _ (n : ℕ) (lo : 105 ≤ size n) (hi : size n ≤ 3172) where
   pattern-lt : rootPattern n < 0x7ff0_0000_0000_0000
-  pattern-lt = omega (arith, pattern-is n, few n hi, lead-high n lo)
+  pattern-lt = omega (arith, pattern-parts n, few n hi, digits-high n lo)
 
-  pattern-units : unitsOf (rootPattern n) ≡ lead n * 2 ^ cutPlaces n
-  pattern-units = ap unitsOf (pattern-is n) ∙ lead-units (cutPlaces n) (lead n) (lead-low n lo) (lead-high n lo)
+  pattern-units : unitsOf (rootPattern n) ≡ rootDigits n * 2 ^ cutPlaces n
+  pattern-units = ap unitsOf (pattern-parts n) ∙ lead-units (cutPlaces n) (rootDigits n) (digits-low n lo) (digits-high n lo)
 
   pattern-value : ofBits binary64 (rootPattern n) ≡ rootUnits n
   pattern-value =
-      one-value binary64 (ofBits binary64 (rootPattern n)) (rootUnits n) false (lead n * 2 ^ cutPlaces n) (2 ^ 1074) (pow-pos 1074) (ofBits-fits binary64 (rootPattern n)) (units-held n lo hi)
+      one-value binary64 (ofBits binary64 (rootPattern n)) (rootUnits n) false (rootDigits n * 2 ^ cutPlaces n) (2 ^ 1074) (pow-pos 1074) (ofBits-fits binary64 (rootPattern n)) (units-held n lo hi)
       (subst (λ (u : ℕ). Counts (ofBits binary64 (rootPattern n)) false u) pattern-units (pattern-counts (rootPattern n) pattern-lt))
       (units-count n lo hi)
 
@@ -109,6 +120,6 @@ answer-is-root x r f e = go (rootable x) (root-is x f) e
 
 pub root-number : (x r : Float) → IsRoot x r → T (not (isNan r))
 unfolding isNan
-root-number x nan i = absurd (i .square)
+root-number x nan i = absurd (i .value .sign)
 root-number x (inf s) i = tt
 root-number x (fin s m e) i = tt

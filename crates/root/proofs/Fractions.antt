@@ -1,52 +1,59 @@
--- Values as fractions and as so many of one unit, and the order of two values. Assumes nothing.
-use mathlib.Core.Path.{_≡_, sym, ap}
-use Prim.Native.Nat.{ℕ, zero, suc, _+_, _*_, _≤_, _<_}
-use native.Mathlib.Nat.{le-trans, le-of-eq, le-of-lt, mul-comm, mul-assoc, mul-left-comm, mul-pos, mul-le-mul-right, le-of-mul-le-mul-right}
-use native.Mathlib.Omega.{arith}
-use mathlib.Core.Bool.{Bool, true, false, _&&_, _||_}
-use lib.IntN.{ℤ}
-use lib.Dec.{T, ltb, eqb, ltb→lt, lt→ltb, eqb→eq}
-use lib.Ieee.{fin, up, down, le}
+-- A fraction as so many of one unit, 1 / L: sums, squares and the order of fractions are those of their counts of units. Assumes nothing.
+use mathlib.Core.Path.{_≡_, sym, ap, ap₂, _∙_}
+use Prim.Native.Nat.{ℕ, _+_, _*_, _≤_, _<_}
+use native.Mathlib.Nat.{le-trans, le-of-eq, lt-of-le-of-lt, lt-of-lt-of-le, add-comm, add-mul, mul-comm, mul-assoc, mul-right-comm, mul-mul-mul-comm, mul-pos, mul-le-mul-right, le-of-mul-le-mul-right, mul-lt-mul-of-pos-right, lt-of-mul-lt-mul-right, eq-of-mul-eq-mul-right}
+use Rattle.root.specs.Fractions.{Fraction, sumOf, squareOf, fourTimes, Below, AtMost, Equal}
 
--- ---- from units to the fractions of the relation: A / a is W / L and B / b is U / L
-module _ (A a B b L U W : ℕ) (p : A * L ≡ W * a) (q : B * L ≡ U * b) where
-  left-side : W * W * (a * a * b) ≡ A * A * b * (L * L)
-  left-side = sym (simp (mul-assoc, mul-comm, mul-left-comm) (simp (mul-assoc, mul-comm, mul-left-comm) at (ap (λ (z : ℕ). z * (z * b)) p)))
+-- f is u / L
+abbrev pub Scaled : Fraction → ℕ → ℕ → Type 0
+Scaled f L u = f .numerator * L ≡ u * f .denominator
 
-  right-side : U * L * (a * a * b) ≡ B * (a * a) * (L * L)
-  right-side = sym (simp (mul-assoc, mul-comm, mul-left-comm) (simp (mul-assoc, mul-comm, mul-left-comm) at (ap (λ (z : ℕ). z * (L * (a * a))) q)))
+-- over another denominator too
+widen : (f : Fraction) (b L u : ℕ) → Scaled f L u → f .numerator * b * L ≡ u * (f .denominator * b)
+widen f b L u p = mul-right-comm (f .numerator) b L ∙ ap (λ (x : ℕ). x * b) p ∙ mul-assoc u (f .denominator) b
 
-  pub to-units : 0 < a → 0 < b → A * A * b ≤ B * (a * a) → W * W ≤ U * L
-  to-units x y h = le-of-mul-le-mul-right (le-trans (le-of-eq left-side) (le-trans (mul-le-mul-right (L * L) h) (le-of-eq (sym right-side)))) (mul-pos (mul-pos x x) y)
+pub square-scaled : (f : Fraction) (L u : ℕ) → Scaled f L u → Scaled (squareOf f) (L * L) (u * u)
+square-scaled f L u p = mul-mul-mul-comm (f .numerator) (f .numerator) L L ∙ ap₂ (λ (x y : ℕ). x * y) p p ∙ mul-mul-mul-comm u (f .denominator) u (f .denominator)
 
-  pub of-units : 0 < L → W * W ≤ U * L → A * A * b ≤ B * (a * a)
-  of-units x h = le-of-mul-le-mul-right (le-trans (le-of-eq (sym left-side)) (le-trans (mul-le-mul-right (a * a * b) h) (le-of-eq right-side))) (mul-pos x x)
+-- by a unit L times smaller
+pub four-scaled : (f : Fraction) (L u : ℕ) → Scaled f L u → Scaled (fourTimes f) (L * L) (4 * (u * L))
+four-scaled f L u p =
+    sym (mul-assoc (4 * f .numerator) L L)
+    ∙ ap (λ (x : ℕ). x * L) (mul-assoc 4 (f .numerator) L ∙ ap (λ (x : ℕ). 4 * x) p)
+    ∙ mul-assoc 4 (u * f .denominator) L
+    ∙ ap (λ (x : ℕ). 4 * x) (mul-right-comm u (f .denominator) L)
+    ∙ sym (mul-assoc 4 (u * L) (f .denominator))
 
--- ---- the order of two values of which the second has its sign clear
-or-l : (a b : Bool) → T a → T (a || b)
-or-l true b t = tt
-or-l false b t = absurd t
+pub sum-swapped : (f g : Fraction) → sumOf f g ≡ sumOf g f
+sum-swapped f g = ap₂ (λ (t b : ℕ). record { numerator = t; denominator = b }) (add-comm (f .numerator * g .denominator) (g .numerator * f .denominator)) (mul-comm (f .denominator) (g .denominator))
 
-pub minus-le : (n : ℕ) (d : ℤ) (m : ℕ) (e : ℤ) → T (le (fin true n d) (fin false m e))
-unfolding le
-minus-le n d m e = go (n * up d * down e) (m * up e * down d)
-  where
-    go : (a b : ℕ) → T (ltb 0 (a + b) || (eqb a b && (false || eqb a 0)))
-    go zero zero = tt
-    go zero (suc b) = or-l (ltb 0 (0 + suc b)) (eqb 0 (suc b) && (false || eqb 0 0)) (lt→ltb 0 (0 + suc b) (omega arith))
-    go (suc a) b = or-l (ltb 0 (suc a + b)) (eqb (suc a) b && (false || eqb (suc a) 0)) (lt→ltb 0 (suc a + b) (omega arith))
+module _ (f g : Fraction) (L u v : ℕ) (p : Scaled f L u) (q : Scaled g L v) where
+  -- both over the product of the denominators
+  left-side : f .numerator * g .denominator * L ≡ u * (f .denominator * g .denominator)
+  left-side = widen f (g .denominator) L u p
 
-pub plus-le : (m : ℕ) (e : ℤ) (n : ℕ) (d : ℤ) → T (le (fin false m e) (fin false n d)) → m * up e * down d ≤ n * up d * down e
-unfolding le
-plus-le m e n d t = go (ltb a b) (eqb a b) (ltb→lt a b) (eqb→eq a b) t
-  where
-    a : ℕ
-    a = m * up e * down d
+  right-side : g .numerator * f .denominator * L ≡ v * (f .denominator * g .denominator)
+  right-side = widen g (f .denominator) L v q ∙ ap (λ (x : ℕ). v * x) (mul-comm (g .denominator) (f .denominator))
 
-    b : ℕ
-    b = n * up d * down e
+  pub sum-scaled : Scaled (sumOf f g) L (u + v)
+  sum-scaled =
+      add-mul (f .numerator * g .denominator) (g .numerator * f .denominator) L ∙ ap₂ (λ (x y : ℕ). x + y) left-side right-side ∙ sym (add-mul u v (f .denominator * g .denominator))
 
-    go : (x y : Bool) → (T x → a < b) → (T y → a ≡ b) → T (x || (y && true)) → a ≤ b
-    go true y f g t = le-of-lt (f tt)
-    go false true f g t = le-of-eq (g tt)
-    go false false f g t = absurd t
+  pub units-below : 0 < L → Below f g → u < v
+  units-below l h =
+      lt-of-mul-lt-mul-right (f .denominator * g .denominator) (lt-of-le-of-lt (le-of-eq (sym left-side)) (lt-of-lt-of-le (mul-lt-mul-of-pos-right h l) (le-of-eq right-side)))
+
+  pub below-units : 0 < f .denominator → 0 < g .denominator → u < v → Below f g
+  below-units a b h =
+      lt-of-mul-lt-mul-right L (lt-of-le-of-lt (le-of-eq left-side) (lt-of-lt-of-le (mul-lt-mul-of-pos-right h (mul-pos a b)) (le-of-eq (sym right-side))))
+
+  pub at-most-units : 0 < f .denominator → 0 < g .denominator → 0 < L → u ≤ v → AtMost f g
+  at-most-units a b l h =
+      le-of-mul-le-mul-right (le-trans (le-of-eq left-side) (le-trans (mul-le-mul-right (f .denominator * g .denominator) h) (le-of-eq (sym right-side)))) l
+
+  pub units-at-most : 0 < f .denominator → 0 < g .denominator → AtMost f g → u ≤ v
+  units-at-most a b h =
+      le-of-mul-le-mul-right (le-trans (le-of-eq (sym left-side)) (le-trans (mul-le-mul-right L h) (le-of-eq right-side))) (mul-pos a b)
+
+  pub units-equal : 0 < f .denominator → 0 < g .denominator → Equal f g → u ≡ v
+  units-equal a b h = eq-of-mul-eq-mul-right (f .denominator * g .denominator) (mul-pos a b) u v (sym left-side ∙ ap (λ (x : ℕ). x * L) h ∙ right-side)

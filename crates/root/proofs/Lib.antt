@@ -1,7 +1,8 @@
 pub mod WholeLaws
 pub mod Powers
 pub mod Patterns
-pub mod Lead
+pub mod LeadingDigits
+pub mod Nearest
 pub mod Fractions
 pub mod Rootable
 pub mod Relation

@@ -1,4 +1,5 @@
 pub mod Whole
+pub mod Fractions
 pub mod Root
 pub mod Digits
 pub mod Answer

@@ -104,7 +104,10 @@ pub record NodeFigures : Type 0 where
   pub valve-q : valveFlow (halved 1 1) (num 4) (num 6) (sums (num 16) (num 2)) gives num 2
   pub valve-H : nodeHead (Valve (halved 1 1) (num 4) (num 6)) (sums (num 16) (num 2)) is num 7
   pub valve-w-rounded : valveW (tenths 1) (tenths 11) (tenths 17) is bits 0x3f7d_2764_d579_505d
-  pub orifice-rounded : orificeFlow (tenths 8) (tenths 15) gives bits 0x3fe8_84a1_af85_d29c
+  pub orifice-rounded : orificeFlow (tenths 13) (tenths 12) gives bits 0x3fe8_41a4_06ab_e008
+  -- the root cut down would give another q; in the second the square of the root's digits leaves just those digits, and half up would give another
+  pub orifice-to-nearest : orificeFlow (num 2) (num 3) gives bits 0x3ffa_54ff_53a5_f1d3
+  pub orifice-below-middle : orificeFlow (halved 1 26) (num (2 ^ 24)) gives bits 0x3fdf_ffff_f800_0002
   pub orifice-subnormal : orificeArgument (halved 1 600) (halved 3 476) is bits 4
   pub orifice-z-overflow : orificeFlow (halved 1 20) (power 1023) gives infinity64
   -- y not above zero: +0, and nothing is judged, also where w·w is infinite
@@ -138,7 +141,10 @@ pub record NodeFigures : Type 0 where
   pub pump-q : pumpFlow (halved 1 1) (num 40) (halved 3 2) (num 2) (sums (num 16) (num 2)) gives num 2
   pub pump-H : nodeHead (Pump (halved 1 1) (num 40) (halved 3 2) (num 2)) (sums (num 16) (num 2)) is num 9
   pub pump-h-rounded : pumpH (tenths 1) (tenths 23) (tenths 1) is bits 0x3fbf_7ced_9168_72b1
-  pub lift-rounded : liftFlow (tenths 1) (tenths 4) (tenths 25) gives bits 0x4002_5254_17e2_cae0
+  pub lift-rounded : liftFlow (tenths 6) (tenths 7) (tenths 8) gives bits 0x3fe4_3aa3_74ac_b3f2
+  -- as of the orifice
+  pub lift-to-nearest : liftFlow (tenths 15) (halved 1 1) (num 3) gives bits 0x3ff7_1075_a3cd_cf18
+  pub lift-below-middle : liftFlow (num 1) (num 1) (bits 0x400e_0000_0000_0002) gives bits 0x3ff8_0000_0000_0002
   pub lift-near-overflow : liftFlow (power 1023) (num 1) (halved 1 11) gives bits 0x1fa0_0000_0000_0000
   pub lift-root-infinite : liftFlow (power 1023) (num 2) (num 1) ≡ NotFinite
   pub lift-y-zero : liftFlow (power 1023) (num 2) (num 0) gives num 0

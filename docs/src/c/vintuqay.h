@@ -13,9 +13,10 @@
 /* The version of these calls: the first number changes where a program would have to, the second where
  * something is added or heads come out otherwise. Since 1.1 a valve (kind 2) is an outlet into open air
  * at head b: it lets water out, and nothing back where the head of the main falls below b (B - T*b not
- * above zero; docs/MANUAL.md, 6). */
+ * above zero; docs/MANUAL.md, 6). Since 1.2 the root is the double nearest the exact root; before, it
+ * was cut down. */
 #define VINTUQAY_VERSION_MAJOR 1
-#define VINTUQAY_VERSION_MINOR 1
+#define VINTUQAY_VERSION_MINOR 2
 
 #ifdef __cplusplus
 extern "C" {
@@ -76,8 +77,9 @@ static inline unsigned vintuqay_number(uint64_t answer) { return (unsigned)(answ
 static inline unsigned vintuqay_section(uint64_t answer) { return (unsigned)(answer >> 8 & 0xfff); }
 static inline uint32_t vintuqay_steps(uint64_t answer) { return (uint32_t)(answer >> 20); }
 
-/* The greatest double whose exact square is at most the exact argument; +0 for either zero,
- * subnormal arguments included. A NaN where the argument is not finite or is below zero (question 23).
+/* The double nearest the exact root, ties to the even last bit, as IEEE 754 has its square root;
+ * subnormal arguments are included. +0 for either zero, where IEEE 754 has -0 for -0. A NaN where the
+ * argument is not finite or is below zero (question 23).
  */
 double vintuqay_root(double x);
 

@@ -10,7 +10,7 @@ TOP = pathlib.Path(__file__).resolve().parents[3]
 BELIEVED = {
     "loops": "Loops",
     "fields": "Bytes Real",
-    "root": "Whole Root Answer",
+    "root": "Whole Fractions Root Answer",
     "wave": "Wave Nodes OpenAir",
     "job": "Job Format Questions Answer",
     "recurrence": "State Step Scan Run Calls Slices Paths Demand Lent Continued",

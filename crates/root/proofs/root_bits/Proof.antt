@@ -5,7 +5,7 @@ use Prim.Native.Nat.{ℕ, _+_, _-_, _*_, _/_, _%_, _^_, _≤_, _<_}
 use native.Mathlib.Nat.{mul-le-mul-left}
 use native.Mathlib.Omega.{arith}
 use borrow.Author.Needs.{needs}
-use Rattle.root.specs.Whole.{wholeRoot}
+use Rattle.root.specs.Whole.{wholeRoot, toNearest}
 use Rattle.root.proofs.WholeLaws.{whole-root-is, one-root, root-by-rest, root-below}
 use Rattle.root.specs.Root.{cutPlaces}
 use Rattle.root.proofs.Powers.{wide-places, wide-cut}
@@ -29,16 +29,20 @@ root-lt m root rest h l =
     let r : root * root ≤ m * 2 ^ 52 = omega (arith, l .all) in
     root-below (m * 2 ^ 52) root (2 ^ 53) r n
 
-pattern-is : (n k q : ℕ) → cutPlaces n ≡ k → wholeRoot 53 (n / 4 ^ k) ≡ q → rootPattern n ≡ k * 2 ^ 52 + q
+pattern-is : (n k c q : ℕ) → cutPlaces n ≡ k → n / 4 ^ k ≡ c → wholeRoot 53 c ≡ q → rootPattern n ≡ k * 2 ^ 52 + toNearest c q
 unfolding rootPattern
-pattern-is n k q e f = ap (λ (x : ℕ). x * 2 ^ 52 + wholeRoot 53 (n / 4 ^ x)) e ∙ ap (λ (x : ℕ). k * 2 ^ 52 + x) f
+pattern-is n k c q e f g =
+    ap (λ (x : ℕ). x * 2 ^ 52 + toNearest (n / 4 ^ x) (wholeRoot 53 (n / 4 ^ x))) e
+    ∙ ap (λ (x : ℕ). k * 2 ^ 52 + toNearest x (wholeRoot 53 x)) f
+    ∙ ap (λ (x : ℕ). k * 2 ^ 52 + toNearest c x) g
 
-is-pattern : (b d p root rest : ℕ) → IsWidened b d p → LeavesRest (d * (1 + p % 2) * 2 ^ 52) root rest → (p - 52) / 2 * 2 ^ 52 + root ≡ rootPattern (unitsOf b * 2 ^ 1074)
+is-pattern : (b d p root rest : ℕ) → IsWidened b d p → LeavesRest (d * (1 + p % 2) * 2 ^ 52) root rest → (p - 52) / 2 * 2 ^ 52 + toNearest (root * root + rest) root ≡ rootPattern (unitsOf b * 2 ^ 1074)
 is-pattern b d p root rest w l =
-    sym
+    ap (λ (x : ℕ). (p - 52) / 2 * 2 ^ 52 + toNearest x root) (l .all)
+    ∙ sym
     (ap rootPattern (w .value)
-    ∙ pattern-is (d * 2 ^ p) ((p - 52) / 2) root (wide-places d p (w .full) (w .bound) (w .least))
-    (ap (wholeRoot 53) (wide-cut d p (w .full) (w .bound) (w .least)) ∙ sym (is-root (d * (1 + p % 2)) root rest (evened b d p w) l)))
+    ∙ pattern-is (d * 2 ^ p) ((p - 52) / 2) (d * (1 + p % 2) * 2 ^ 52) root (wide-places d p (w .full) (w .bound) (w .least)) (wide-cut d p (w .full) (w .bound) (w .least))
+    (sym (is-root (d * (1 + p % 2)) root rest (evened b d p w) l)))
 
 mul-m : tie.Need-mul-m
 mul-m c = omega (arith, evened (c .before .args .b) (c .widened .result .digits) (c .widened .result .power) (c .widened .ensures))
@@ -58,14 +62,14 @@ short c =
     let p = w .widened .result .power in
     root-lt (d * (1 + p % 2)) (c .whole-root .result .root) (c .whole-root .result .rest) (evened (w .before .args .b) d p (w .widened .ensures)) (c .whole-root .ensures)
 
-add-result : tie.Need-add-result
-add-result c = omega (arith, c .before .before .widened .ensures .most, short (c .before), c .cut-down .ensures)
+rounded-requires : tie.Need-rounded-requires
+rounded-requires c κs = (short c, omega (arith, c .before .widened .ensures .most))
 
 returns : tie.Need-returns
 returns c =
     let r = c .before in
     let w = r .before in
-    rw (c .cut-down .ensures)
+    rw (c .rounded .ensures)
     (is-pattern (w .before .args .b) (w .widened .result .digits) (w .widened .result .power) (r .whole-root .result .root) (r .whole-root .result .rest) (w .widened .ensures) (r .whole-root .ensures))
 
 pub root-bits-spec : {M : Type 1} → statement M
@@ -76,8 +80,6 @@ root-bits-spec =
     (λ c. search needs)
     mul-m
     whole-root-requires
-    (λ c κs. search needs)
     (λ c. search needs)
-    (λ c. search needs)
-    add-result
+    rounded-requires
     returns)

@@ -2,11 +2,13 @@
 //!
 //! - [`ours`]: the C interface; [`both`]: a call of both, compared in every bit.
 //! - [`parts`]: what is compared; [`tally`]: how many of each, and which numbers were reached;
-//!   [`cases`], [`outlets`]: which cases of the lent slices and of the valves were.
+//!   [`cases`], [`outlets`]: which cases of the lent slices and of the valves and pumps were;
+//!   [`cut_down`]: the root as it was, to count where it differs.
 //! - [`distance`]: how far each section is from a node, for demand 3.
 
 pub mod both;
 pub mod cases;
+pub mod cut_down;
 pub mod distance;
 pub mod ours;
 pub mod outlets;

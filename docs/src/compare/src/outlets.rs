@@ -1,9 +1,10 @@
-//! What valves meet at the first step of a run-on. Each case must be reached by the comparison.
+//! What valves and pumps meet at the first step of a run-on. Each case must be reached by the comparison.
 
 use crate::both::Lent;
+use crate::cut_down::cut_down;
 use crate::tally::Tally;
 use reference::job::Kind;
-use reference::node::valve_w_y;
+use reference::node::{head, head_by, valve_w_y};
 use reference::reader::read;
 use reference::run::sums;
 use reference::wave::Sums;
@@ -17,9 +18,11 @@ const ZERO_WIDE: &str = "valves with y zero and w·w infinite, which discharge n
 const NOT_ABOVE_NOT_FINITE: &str = "valves with y zero or below and B or T not finite";
 const ABOVE_BY_Y: &str = "open valves with y above zero where B/T is not above b";
 const LEVEL_BY_Y: &str = "valves with y zero and w·w infinite where B/T is above b";
+const VALVE_TO_NEAREST: &str = "valves whose head a root cut down would change";
+const PUMP_TO_NEAREST: &str = "pumps whose head a root cut down would change";
 
 /// Every case that must be reached.
-pub fn all() -> [&'static str; 9] {
+pub fn all() -> [&'static str; 11] {
     [
         DISCHARGES,
         ROOT_NOT_FINITE,
@@ -30,17 +33,25 @@ pub fn all() -> [&'static str; 9] {
         NOT_ABOVE_NOT_FINITE,
         ABOVE_BY_Y,
         LEVEL_BY_Y,
+        VALVE_TO_NEAREST,
+        PUMP_TO_NEAREST,
     ]
 }
 
-/// Counts the cases of the valves at a step that begins from the slices as they were lent.
+/// Counts the cases of the valves and pumps at a step that begins from the slices as they were lent.
 pub fn count(tally: &mut Tally, job: &[u8], step: u64, mut lent: Lent) {
     let Ok(job) = read(job) else {
         return;
     };
     for (node, sums) in job.nodes.iter().zip(sums(&job, &lent.rows())) {
-        if let Kind::Valve { a, b } = node.kind {
-            count_valve(tally, node.value_at(step), a, b, sums);
+        let (kind, v) = (node.kind, node.value_at(step));
+        if let Kind::Valve { a, b } = kind {
+            count_valve(tally, v, a, b, sums);
+        }
+        if head(kind, v, sums).to_bits() != head_by(cut_down, kind, v, sums).to_bits() {
+            // A junction or a reservoir takes no root.
+            let valve = matches!(kind, Kind::Valve { .. });
+            tally.count(if valve { VALVE_TO_NEAREST } else { PUMP_TO_NEAREST }, 1);
         }
     }
 }

@@ -16,10 +16,12 @@ pub use lines::{lines, listings};
 pub use lists::lists;
 pub use roots::roots;
 
-/// What must be counted at least once for the comparison to pass.
-pub fn to_be_reached() -> Vec<&'static str> {
+/// What must be counted for the comparison to pass, and how often at least.
+pub fn to_be_reached() -> Vec<(&'static str, u64)> {
     let mut cases = cases::all();
     cases.extend(outlets::all());
     cases.extend([lists::SPARE_TOO_SHORT, edits::SHARP]);
-    cases
+    let mut counts: Vec<_> = cases.into_iter().map(|case| (case, 1)).collect();
+    counts.extend(roots::all());
+    counts
 }

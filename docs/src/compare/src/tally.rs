@@ -51,9 +51,10 @@ impl Tally {
         }
     }
 
-    /// Which of these were never counted.
-    pub fn not_counted(&self, cases: &[&'static str]) -> Vec<&'static str> {
-        cases.iter().copied().filter(|case| self.counted(case) == 0).collect()
+    /// Which of these were counted less often than asked.
+    pub fn too_few(&self, cases: &[(&'static str, u64)]) -> Vec<&'static str> {
+        let too_few = cases.iter().filter(|&&(case, least)| self.counted(case) < least);
+        too_few.map(|&(case, _)| case).collect()
     }
 
     /// The numbers of document 01 that were not reached.

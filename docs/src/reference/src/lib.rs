@@ -1,5 +1,5 @@
-//! Document 01 ("Water hammer in pumping mains: the calculator") implemented a second time,
-//! from the paper alone, to compare the proved calculator with.
+//! Document 01 ("Water hammer in pumping mains: the calculator"), with what has landed of document 02,
+//! implemented a second time, from the papers alone, to compare the proved calculator with.
 //!
 //! - [`reader`]: questions 1 to 15; [`job`]: what an accepted job says.
 //! - [`root`], [`wave`], [`node`]: the equations, rounded once an operation in the written order.

@@ -2,7 +2,7 @@
 
 use crate::refusal::{ask, Refused};
 
-/// The greatest f64 whose exact square is at most the exact argument, +0 for either zero.
+/// The f64 nearest the exact root, ties to the even last bit, +0 for either zero.
 /// Refuses, as 23, an argument that is not finite or is below zero.
 pub fn root(x: f64) -> Result<f64, Refused> {
     ask(23, x.is_finite() && x >= 0.0)?;
@@ -14,7 +14,7 @@ pub fn root(x: f64) -> Result<f64, Refused> {
     let odd = exponent.rem_euclid(2);
     let wide = u128::from(significand) << (52 + odd);
     let half = (exponent - 52 - odd) / 2;
-    Ok(from_parts(whole_root(wide) as u64, half))
+    Ok(from_parts(nearest_root(wide), half))
 }
 
 /// x as significand · 2^exponent with 2^52 <= significand < 2^53; a subnormal is brought to full
@@ -30,28 +30,27 @@ fn full_width(x: f64) -> (u64, i32) {
     (fraction << shift, -1074 - shift as i32)
 }
 
-/// The greatest whole t with t·t at most `wide`, digit by digit from the highest.
-fn whole_root(wide: u128) -> u128 {
-    let mut root = 0;
-    for place in (0..53).rev() {
-        let with_digit = root | 1_u128 << place;
-        if with_digit * with_digit <= wide {
-            root = with_digit;
-        }
-    }
-    root
+/// The whole number nearest the exact root of `wide`.
+fn nearest_root(wide: u128) -> u64 {
+    let below = wide.isqrt();
+    let twice_the_middle = 2 * below + 1;
+    // Never equal, one side being even and the other odd: no tie arises.
+    let up = 4 * wide > twice_the_middle * twice_the_middle;
+    below as u64 + u64::from(up)
 }
 
-/// significand · 2^exponent for 2^52 <= significand < 2^53. A root's exponent lies within
-/// -589 to 459, so the result is never subnormal.
+/// significand · 2^exponent for 2^52 <= significand <= 2^53: the leading digit is added to the
+/// exponent's field, and so is the carry of 2^53. A root's exponent lies within -589 to 459, so the
+/// result is never subnormal.
 fn from_parts(significand: u64, exponent: i32) -> f64 {
-    let field = (exponent + 1075) as u64;
-    f64::from_bits(field << 52 | significand & ((1 << 52) - 1))
+    let field = (exponent + 1074) as u64;
+    f64::from_bits((field << 52) + significand)
 }
 
 #[cfg(test)]
 mod tests {
     use super::*;
+    use crate::generate::Random;
 
     fn bits(x: f64) -> u64 {
         root(x).unwrap().to_bits()
@@ -61,7 +60,7 @@ mod tests {
     fn p10() {
         assert_eq!(root(144.0), Ok(12.0));
         assert_eq!(root(f64::from_bits(1)), Ok(2.0_f64.powi(-537)));
-        assert_eq!(bits(2.0), 0x3ff6_a09e_667f_3bcc);
+        assert_eq!(bits(2.0), 0x3ff6_a09e_667f_3bcd);
     }
 
     #[test]
@@ -88,22 +87,53 @@ mod tests {
         }
     }
 
+    /// The machine's root is IEEE 754's, the nearest.
+    fn is_the_machines(x: f64) {
+        assert_eq!(bits(x), x.sqrt().to_bits(), "{x:e}");
+    }
+
     #[test]
-    fn is_the_nearest_root_or_the_one_below_it() {
-        let mut state = 1_u64;
-        for _ in 0..100_000 {
-            state = state.wrapping_mul(6_364_136_223_846_793_005).wrapping_add(1);
-            let x = f64::from_bits(state >> 1);
-            if !x.is_finite() {
-                continue;
+    fn is_the_machines_root() {
+        let mut random = Random::new(7);
+        for _ in 0..200_000 {
+            let x = f64::from_bits(random.bits() >> 1);
+            if x.is_finite() {
+                is_the_machines(x);
             }
-            let below_nearest = x.sqrt().to_bits().wrapping_sub(bits(x));
-            assert!(below_nearest <= 1, "{x:e}");
+            // Subnormal, of every width; none is zero.
+            is_the_machines(f64::from_bits(1 | random.bits() >> random.from_to(12, 63)));
+            let side =
+                f64::from_bits(0x3ff0_0000_0000_0000 | random.bits() >> random.from_to(12, 40));
+            let square = (side * side).to_bits();
+            for near in [square - 1, square, square + 1] {
+                is_the_machines(f64::from_bits(near));
+            }
         }
     }
 
     #[test]
-    fn greatest_argument() {
+    fn about_the_powers_of_two() {
+        for field in 1..2047_u64 {
+            for near in [1, 2, 3] {
+                is_the_machines(f64::from_bits((field << 52) - near));
+                is_the_machines(f64::from_bits((field << 52) - 1 + near));
+            }
+        }
+    }
+
+    /// The exact root lies just below the middle, by less than a part in 2^106 of it: rounded up, the
+    /// first would be the next f64 above 1, the others would carry into the exponent.
+    #[test]
+    fn just_below_the_middle() {
+        assert_eq!(bits(1.0_f64.next_up()), 0x3ff0_0000_0000_0000);
+        assert_eq!(bits(4.0_f64.next_down()), 0x3fff_ffff_ffff_ffff);
         assert_eq!(bits(f64::MAX), 0x5fef_ffff_ffff_ffff);
+    }
+
+    #[test]
+    fn a_carry_goes_into_the_exponent() {
+        assert_eq!(from_parts(1 << 53, -52), 2.0);
+        assert_eq!(from_parts((1 << 53) - 1, -52), 2.0_f64.next_down());
+        assert_eq!(from_parts(1 << 52, -52), 1.0);
     }
 }

@@ -171,9 +171,9 @@ fn a_valve_that_discharges_twice_and_then_draws_nothing() {
         draft.section(head, flow, -100.0);
     }
     let ends = [
-        (0x401f_be19_9860_0ddd, 0x4006_42a8_f779_862e),
+        (0x401f_be19_9860_0ddf, 0x4006_42a8_f779_862c),
         (0x4021_412c_d6ff_e0c3, 0x3ff9_ef2d_db5c_d7e8),
-        (0x4015_0b87_0455_2875, 0xbcc0_0000_0000_0000),
+        (0x4015_0b87_0455_2874, 0x0000_0000_0000_0000),
     ];
     for (count, end) in (1..).zip(ends) {
         let store = after(&draft, count);
