@@ -54,8 +54,8 @@ units-answer (inf s) u c = absurd c
 units-answer (fin true m e) u c = absurd (true≢false (c .0))
 units-answer (fin false m e) u c = sym (rootOf-is false m e u (plus-rootable m e) (c .1))
 
-lead-units : (k q : ℕ) → 2 ^ 52 ≤ q → q ≤ 2 ^ 53 → unitsOf (k * 2 ^ 52 + q) ≡ q * 2 ^ k
-lead-units k q lo hi = ⊎-elim (λ (e : q ≡ 2 ^ 53). subst (λ (z : ℕ). unitsOf (k * 2 ^ 52 + z) ≡ z * 2 ^ k) (sym e) carried) plain (eq-or-lt-of-le hi)
+digits-units : (k q : ℕ) → 2 ^ 52 ≤ q → q ≤ 2 ^ 53 → unitsOf (k * 2 ^ 52 + q) ≡ q * 2 ^ k
+digits-units k q lo hi = ⊎-elim (λ (e : q ≡ 2 ^ 53). subst (λ (z : ℕ). unitsOf (k * 2 ^ 52 + z) ≡ z * 2 ^ k) (sym e) carried) plain (eq-or-lt-of-le hi)
   where
     plain : q < 2 ^ 53 → unitsOf (k * 2 ^ 52 + q) ≡ q * 2 ^ k
     plain l =
@@ -80,7 +80,7 @@ module _ (n : ℕ) (lo : 105 ≤ size n) (hi : size n ≤ 3172) where
   pattern-lt = omega (arith, pattern-parts n, few n hi, digits-high n lo)
 
   pattern-units : unitsOf (rootPattern n) ≡ rootDigits n * 2 ^ cutPlaces n
-  pattern-units = ap unitsOf (pattern-parts n) ∙ lead-units (cutPlaces n) (rootDigits n) (digits-low n lo) (digits-high n lo)
+  pattern-units = ap unitsOf (pattern-parts n) ∙ digits-units (cutPlaces n) (rootDigits n) (digits-low n lo) (digits-high n lo)
 
   pattern-value : ofBits binary64 (rootPattern n) ≡ rootUnits n
   pattern-value =

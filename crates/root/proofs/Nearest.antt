@@ -26,7 +26,7 @@ square-lt : (a b : ℕ) → a < b → a * a < b * b
 square-lt a b h = lt-of-le-of-lt (mul-le-mul (le-of-eq refl) (le-of-lt h)) (mul-lt-mul-of-pos-right h (lt-of-le-of-lt (omega arith) h))
 
 -- a value, m * 2 ^ i with an m of at most 53 digits, is a multiple of 2 ^ k, or it is below 2 ^ 52 of them
-pub below-or-multiple : (k m i : ℕ) → m < 2 ^ 53 → (m * 2 ^ i < 2 ^ 52 * 2 ^ k) ⊎ ((a : ℕ) × (m * 2 ^ i ≡ a * 2 ^ k))
+below-or-multiple : (k m i : ℕ) → m < 2 ^ 53 → (m * 2 ^ i < 2 ^ 52 * 2 ^ k) ⊎ ((a : ℕ) × (m * 2 ^ i ≡ a * 2 ^ k))
 below-or-multiple k m i M = go (ltb i k) (ltb→lt i k) (nltb→le i k)
   where
     go : (b : Bool) → (T b → i < k) → (T (not b) → k ≤ i) → (m * 2 ^ i < 2 ^ 52 * 2 ^ k) ⊎ ((a : ℕ) × (m * 2 ^ i ≡ a * 2 ^ k))
@@ -36,6 +36,14 @@ below-or-multiple k m i M = go (ltb i k) (ltb→lt i k) (nltb→le i k)
     go false a b =
         let c : i - k + k ≡ i = omega (arith, b tt) in
         inr (m * 2 ^ (i - k), ap (λ (x : ℕ). m * 2 ^ x) (sym c) ∙ ap (λ (x : ℕ). m * x) (pow-add 2 (i - k) k) ∙ sym (mul-assoc m (2 ^ (i - k)) (2 ^ k)))
+
+-- so a value above n * 2 ^ k, for an n of 53 digits, is a greater multiple of 2 ^ k
+pub greater-multiple : (k n m i : ℕ) → 2 ^ 52 ≤ n → m < 2 ^ 53 → n * 2 ^ k < m * 2 ^ i → (a : ℕ) × (n < a) × (m * 2 ^ i ≡ a * 2 ^ k)
+greater-multiple k n m i N M h =
+    ⊎-elim
+    (λ s. absurd (lt-irrefl (m * 2 ^ i) (lt-of-lt-of-le s (le-trans (mul-le-mul-right (2 ^ k) N) (le-of-lt h)))))
+    (λ e. (e .0, lt-of-mul-lt-mul-right (2 ^ k) (subst (λ (x : ℕ). n * 2 ^ k < x) (e .1) h), e .1))
+    (below-or-multiple k m i M)
 
 -- ---- a value v beside w * 2 ^ k, where w is nearest the root of c
 module _ (k c w : ℕ) (C : 2 ^ 104 ≤ c) (W : 2 ^ 52 ≤ w) (N : IsNearestRoot c w) (m i : ℕ) (M : m < 2 ^ 53) where
@@ -60,16 +68,9 @@ module _ (k c w : ℕ) (C : 2 ^ 104 ≤ c) (W : 2 ^ 52 ≤ w) (N : IsNearestRoot
           rw (e .1) (rw (sum-squared k a w) (rw (sym (mul-assoc 4 c (4 ^ k))) (mul-lt-mul-of-pos-right (middle-below c w a N l) (four-pos k))))
 
   more : w * 2 ^ k < v → 4 * (c * 4 ^ k) < both
-  more h = ⊎-elim short multiple (below-or-multiple k m i M)
-    where
-      short : v < 2 ^ 52 * 2 ^ k → 4 * (c * 4 ^ k) < both
-      short l = absurd (lt-irrefl v (lt-of-lt-of-le l (le-trans (mul-le-mul-right (2 ^ k) W) (le-of-lt h))))
-
-      multiple : ((a : ℕ) × (v ≡ a * 2 ^ k)) → 4 * (c * 4 ^ k) < both
-      multiple e =
-          let a = e .0 in
-          let l : w < a = lt-of-mul-lt-mul-right (2 ^ k) (subst (λ (x : ℕ). w * 2 ^ k < x) (e .1) h) in
-          rw (e .1) (rw (sum-squared k a w) (rw (sym (mul-assoc 4 c (4 ^ k))) (mul-lt-mul-of-pos-right (middle-above c w a N l) (four-pos k))))
+  more h =
+      let g = greater-multiple k w m i W M h in
+      rw (g .2) (rw (sum-squared k (g .0) w) (rw (sym (mul-assoc 4 c (4 ^ k))) (mul-lt-mul-of-pos-right (middle-above c w (g .0) N (g .1)) (four-pos k))))
 
 -- ---- r is nearer the root of n than any other value, both counted in the smallest f64
 

@@ -2,10 +2,9 @@
 -- (`none-as-near`), and none has a root midway between two neighbours (`no-midway`). Each is read off counts of the smallest f64, where `rootOf x` is nearer than
 -- any other value. Assumes nothing.
 use mathlib.Core.Path.{_≡_, refl, sym, ap, _∙_, subst}
-use mathlib.Core.Logic.{⊎-elim}
 use mathlib.Core.Bool.{Bool, true, false, not, cond, true≢false}
 use Prim.Native.Nat.{ℕ, _+_, _*_, _/_, _^_, _≤_, _<_}
-use native.Mathlib.Nat.{le-of-lt, le-trans, lt-of-le-of-lt, lt-of-lt-of-le, lt-irrefl, not-le-of-lt, ne-of-lt, mul-pos, mul-le-mul, mul-le-mul-right, mul-lt-mul-of-pos-right, lt-of-mul-lt-mul-right}
+use native.Mathlib.Nat.{le-of-lt, lt-of-le-of-lt, not-le-of-lt, ne-of-lt, mul-pos, mul-le-mul, mul-le-mul-right, mul-lt-mul-of-pos-right}
 use native.Mathlib.Omega.{arith}
 use lib.IntN.{ℤ}
 use lib.Dec.{T, ltb, ltb→lt, nltb→le}
@@ -19,7 +18,7 @@ use Rattle.root.specs.Fractions.{exact, sumOf, squareOf, Below, AtMost, 
 use Rattle.root.specs.Root.{rootable, plus, MayBeRoot, twiceMiddleSquared, twiceRootSquared, AsNear, IsRoot, rootUnits, rootOf, Neighbours}
 use Rattle.root.proofs.Patterns.{count-is}
 use Rattle.root.proofs.Fractions.{Scaled, sum-scaled, square-scaled, four-scaled, sum-swapped, units-below, below-units, units-at-most, at-most-units, units-equal}
-use Rattle.root.proofs.Nearest.{below-or-multiple, Nearest, nearest-of}
+use Rattle.root.proofs.Nearest.{greater-multiple, Nearest, nearest-of}
 
 -- ---- values as so many of the smallest f64
 
@@ -230,10 +229,8 @@ neighbours-of k n p q N i j P Q = record {
   where
     reaches : (m i : ℕ) → m < 2 ^ 53 → n * 2 ^ k < m * 2 ^ i → (n + 1) * 2 ^ k ≤ m * 2 ^ i
     reaches m i M l =
-        ⊎-elim
-        (λ s. absurd (lt-irrefl (m * 2 ^ i) (lt-of-lt-of-le s (le-trans (mul-le-mul-right (2 ^ k) N) (le-of-lt l)))))
-        (λ e. rw (e .1) (mul-le-mul-right (2 ^ k) (let a : n < e .0 = lt-of-mul-lt-mul-right (2 ^ k) (subst (λ (x : ℕ). n * 2 ^ k < x) (e .1) l) in omega arith)))
-        (below-or-multiple k m i M)
+        let g = greater-multiple k n m i N M l in
+        rw (g .2) (mul-le-mul-right (2 ^ k) (let a : n < g .0 = g .1 in omega arith))
 
 -- ---- the root has its sign clear, and at an argument that question 23 refuses it is a NaN
 
