@@ -1,6 +1,6 @@
 -- An answer as one number, for callers in C. Definitions only.
 use Prim.Native.Nat.{ℕ, _+_, _*_, _/_, _%_}
-use Rattle.job.specs.Answer.{ReadAnswer, refused, accepted}
+use Rattle.reader.specs.Answer.{ReadAnswer, refused, accepted}
 use Rattle.recurrence.specs.Run.{Answer}
 
 -- The number of a question or a stop, 0 where there is neither, in the lowest 8 binary digits; a section or a section count in the next 12; steps in

@@ -3,13 +3,13 @@
 ghost use mathlib.Core.Path.{_≡_};
 ghost use lib.ListN.{length};
 ghost use Rattle.root.specs.Root.{rootOf};
-ghost use Rattle.job.specs.Answer.{readAnswer};
+ghost use Rattle.reader.specs.Answer.{readAnswer};
 ghost use Rattle.recurrence.specs.Calls.{startCall, runOnCall};
 ghost use Rattle.recurrence.specs.Slices.{before, after};
 ghost use Rattle.surge.specs.Answers.{paperAnswer};
 ghost use Rattle.listing.specs.Listing.{lineWritten, AtFront};
 ghost use Rattle.c_interface.specs.Packed.{packed, packedAnswer, packedRead};
-use job::Read;
+use reader::Read;
 use surge::Answer;
 
 // A number, a section and steps in one.
@@ -37,12 +37,12 @@ pub extern "C" fn vintuqay_root(x: f64) -> f64
     root::root_of(x)
 }
 
-// Questions 1 to 15.
+// Questions 1 to 15, with 50.
 #[no_mangle]
 pub extern "C" fn vintuqay_read(job: &[u8]) -> u64
     ensures { λ r. ⌜ r ≡ packedRead (readAnswer (now (job .entry))) ⌝ }
 {
-    let read = job::read(job);
+    let read = reader::read(job);
     match read {
         Read::Refused(q) => pack(q, 0, 0),
         Read::Accepted { sections, steps } => pack(0, sections, steps as u64),

@@ -6,15 +6,16 @@ use mathlib.Core.Option.{some}
 use Prim.Native.Nat.{ℕ, _*_, _/_, _%_, _<_, _≤_}
 use lib.ListN.{length, getElem?}
 use lib.Dec.{eqb, leb, ltb}
-use lib.Ieee.{lt}
+use lib.Ieee.{Float, lt}
 use lib.Ieee.Scale.{finite}
 use Rattle.fields.specs.Real.{zero64}
 use borrow.Author.Tests.{leb-true, ltb-true, eqb-true, eqb-false, not-true}
 use Rattle.loops.proofs.All.{all-at}
-use Rattle.job.specs.Job.{Pipe, sectionsOf, sections}
-use Rattle.job.specs.Format.{pipeTable, nodeTable, frictionTable, initialTable, scheduleTable, pipeCount, pipeIn, pipesIn, reachesOf, nodeCount, nodesIn, jobOf}
-use Rattle.job.specs.Questions.{holdsRecords, joins, pipesJoin, sectionsFit, constantFits, constantsFit, kindsFit, figuresFit, nodesMet, frictionFits, frictionRight, hasLength, initialFits, initialRight, schedulesRight, pipeQuestions, nodeQuestions, valueQuestions, firstNo, Accepted}
+use Rattle.job.specs.Job.{Pipe, sectionsOf, sections, nodeAt, entryAt, scheduled}
+use Rattle.job.specs.Format.{pipeTable, nodeTable, frictionTable, initialTable, scheduleTable, countTable, pipeCount, pipeIn, pipesIn, reachesOf, nodeCount, nodesIn, jobOf}
+use Rattle.job.specs.Questions.{holdsRecords, joins, pipesJoin, sectionsFit, constantFits, constantsFit, kindsFit, countsFit, figuresFit, nodesMet, frictionFits, frictionRight, hasLength, initialFits, initialRight, schedulesRight, pipeQuestions, nodeQuestions, valueQuestions, firstNo, Accepted}
 use Rattle.job.specs.QuestionParts.{NodesRight}
+use Rattle.job.specs.TableEntries.{nodeOf}
 use Rattle.job.proofs.FirstNo.{yes, none-refused}
 use Rattle.job.proofs.TableBounds.{PairsRight, pairs-right}
 use Rattle.loops.proofs.Tests.{both}
@@ -29,10 +30,18 @@ pub record TablesRight (job : List ℕ) : Type 0 where
   pub joined : pipesJoin (pipeTable job) (nodeCount (nodeTable job)) ≡ true
   pub few-sections : sectionsFit (pipeTable job) ≡ true
   pub constants : constantsFit (pipeTable job) ≡ true
-  pub nodes : NodesRight (nodeTable job) (scheduleTable job)
+  pub nodes : NodesRight (nodeTable job) (countTable job) (scheduleTable job)
   pub met : nodesMet (pipeTable job) (nodeCount (nodeTable job)) ≡ true
   pub friction : frictionRight (pipeTable job) (frictionTable job) ≡ true
   pub initial : initialRight (pipeTable job) (initialTable job) ≡ true
+
+-- question 50's yes, where the questions about nodes have no first no
+pub counts-asked :
+    {nodes counts : List ℕ} (job : List ℕ) → nodes ≡ nodeTable job → counts ≡ countTable job → firstNo nodeQuestions job ≡ 0 → countsFit nodes counts ≡ true
+unfolding nodeQuestions firstNo
+counts-asked job n c h =
+    let q10 = yes (kindsFit (nodeTable job) (countTable job)) 9 _ h in
+    rw (n, c) (yes (countsFit (nodeTable job) (countTable job)) 49 _ (q10 .1) .0)
 
 pub tables-right : (job : List ℕ) → Accepted job → TablesRight job
 unfolding pipeQuestions nodeQuestions valueQuestions firstNo
@@ -43,12 +52,13 @@ tables-right job h =
     let q7 = yes (pipesJoin (pipeTable job) (nodeCount (nodeTable job))) 6 _ (q6 .1) in
     let q8 = yes (sectionsFit (pipeTable job)) 7 _ (q7 .1) in
     let q9 = yes (constantsFit (pipeTable job)) 8 _ (q8 .1) in
-    let q10 = yes (kindsFit (nodeTable job)) 9 _ (none .nodes) in
-    let q11 = yes (figuresFit (nodeTable job)) 10 _ (q10 .1) in
+    let q10 = yes (kindsFit (nodeTable job) (countTable job)) 9 _ (none .nodes) in
+    let q50 = yes (countsFit (nodeTable job) (countTable job)) 49 _ (q10 .1) in
+    let q11 = yes (figuresFit (nodeTable job)) 10 _ (q50 .1) in
     let q12 = yes (nodesMet (pipeTable job) (nodeCount (nodeTable job))) 11 _ (q11 .1) in
     let q13 = yes (frictionRight (pipeTable job) (frictionTable job)) 12 _ (none .values) in
     let q14 = yes (initialRight (pipeTable job) (initialTable job)) 13 _ (q13 .1) in
-    let q15 = yes (schedulesRight (nodeTable job) (scheduleTable job)) 14 _ (q14 .1) in
+    let q15 = yes (schedulesRight (nodeTable job) (countTable job) (scheduleTable job)) 14 _ (q14 .1) in
     record {
       pairs = pairs-right job (none .pairs);
       pipes-whole = q5 .0;
@@ -56,11 +66,23 @@ tables-right job h =
       joined = q7 .0;
       few-sections = q8 .0;
       constants = q9 .0;
-      nodes = record { kinds = q10 .0; figures = q11 .0; entries = q15 .0 };
+      nodes = record { kinds = q10 .0; counted = q50 .0; figures = q11 .0; entries = q15 .0 };
       met = q12 .0;
       friction = q13 .0;
       initial = q14 .0;
     }
+
+pub nodes-right :
+    {nodes counts schedules : List ℕ} (job : List ℕ) → nodes ≡ nodeTable job → counts ≡ countTable job → schedules ≡ scheduleTable job → Accepted job
+    → NodesRight nodes counts schedules
+nodes-right job n c s h = rw (n, c, s) (tables-right job h .nodes)
+
+-- a value read from the tables is the record's
+pub scheduled-is :
+    {nodes counts schedules : List ℕ} {v : Float} (job : List ℕ) (step node : ℕ) → nodes ≡ nodeTable job → counts ≡ countTable job
+    → schedules ≡ scheduleTable job → v ≡ entryAt (nodeOf nodes counts schedules node .schedule) step → v ≡ scheduled (jobOf job) step node
+unfolding scheduled nodeAt jobOf
+scheduled-is job step node n c s e = rw (n, c, s) at e
 
 -- what a table of whole records holds
 records-are : (width low high : ℕ) (t : List ℕ) → holdsRecords width low high t ≡ true → (low ≤ length t / width) × (length t / width ≤ high)

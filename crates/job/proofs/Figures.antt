@@ -2,15 +2,14 @@
 use mathlib.Core.Path.{_≡_, refl}
 use mathlib.Core.List.{[], _∷_}
 use lib.ListN.{set}
-use lib.Ieee.{Float, binary64, ofBits, lt}
-use Rattle.fields.specs.Bytes.{u64At, f64At, zeroBitsAt}
+use lib.Ieee.{Float, binary64, ofBits}
 use Rattle.fields.specs.Real.{zero64, one64, two64, four64}
-use Rattle.loops.specs.Loops.{allBelow, listed}
-use Rattle.job.specs.Job.{junction, reservoir, valve, pump, laidFrom, laid, sectionsOf, nodeAt, entryAt, scheduled}
-use Rattle.job.specs.Format.{table, pipesIn, reachesOf, kindIn, frictionIn, initialIn, placeOf, nodeIn, nodesIn, jobOf}
+use Rattle.job.specs.Job.{junction, reservoir, valve, pump, laid, laidFrom, nodeAt, entryAt, scheduled}
+use Rattle.job.specs.Format.{jobOf}
 use Rattle.job.specs.JobQ.{jobQ}
 use Rattle.job.specs.OwnJobs.{jobOfAllKinds, wrappedPairs}
-use Rattle.job.specs.Questions.{sizeFits, pairsFit, follows, tablesFollow, stepsFit, holdsRecords, joins, pipesJoin, sectionsFit, constantFits, constantsFit, kindFits, kindsFit, allFinite, hasNoFigures, valveFits, pumpFits, figuresFitKind, figureFits, figuresFit, endsAt, hasEnd, nodesMet, rFits, frictionFits, finiteSection, sectionFits, initialFits, entryFits, scheduleFits, schedulesFit, frictionRight, initialRight, schedulesRight, pairQuestions, pipeQuestions, nodeQuestions, valueQuestions, questions, firstNo, refusal, Accepted}
+use Rattle.job.specs.Questions.{refusal, Accepted}
+use Rattle.job.proofs.AllDefinitions.{opened}
 
 -- the numbers of the two jobs
 abbrev ten : Float
@@ -67,7 +66,7 @@ pub job-Q-is-read :
           ∷ record { head = ten; flow = four64; floor = zero64 }
           ∷ [];
     }
-unfolding jobQ listed table pipesIn kindIn frictionIn initialIn placeOf nodeIn nodesIn jobOf f64At u64At
+unfolding opened
 job-Q-is-read = refl
 
 pub job-of-all-kinds-is-read :
@@ -90,7 +89,7 @@ pub job-of-all-kinds-is-read :
           ∷ record { head = five; flow = two64; floor = three }
           ∷ [];
     }
-unfolding jobOfAllKinds listed table pipesIn kindIn frictionIn initialIn placeOf nodeIn nodesIn jobOf f64At u64At
+unfolding opened
 job-of-all-kinds-is-read = refl
 
 -- Job Q with one byte changed: the valve's c and then its a made -0, which is not all zero bits and is not below zero; its 2 reaches made 514,
@@ -98,7 +97,7 @@ job-of-all-kinds-is-read = refl
 pub edges-are-judged :
     (refusal (set jobQ 109 128) ≡ 11) × (refusal (set jobQ 93 128) ≡ 0) × (refusal (set jobQ 49 2) ≡ 7) × (refusal wrappedPairs ≡ 3)
     × Accepted jobQ × Accepted jobOfAllKinds
-unfolding jobQ jobOfAllKinds wrappedPairs allBelow listed table pipesIn sectionsOf placeOf f64At u64At zeroBitsAt ofBits lt sizeFits pairsFit follows tablesFollow stepsFit holdsRecords joins pipesJoin sectionsFit constantFits constantsFit kindFits kindsFit allFinite hasNoFigures valveFits pumpFits figuresFitKind figureFits figuresFit endsAt hasEnd nodesMet reachesOf rFits frictionFits finiteSection sectionFits initialFits entryFits scheduleFits schedulesFit frictionRight initialRight schedulesRight pairQuestions pipeQuestions nodeQuestions valueQuestions questions firstNo refusal
+unfolding opened
 edges-are-judged = (refl, refl, refl, refl, refl, refl)
 
 -- the second pipe's sections begin after the first's two, and its reaches after the first's one

@@ -1,4 +1,6 @@
+pub mod AllDefinitions
 pub mod Figures
+pub mod FormFigures
 pub mod WalkLaws
 pub mod Places
 pub mod FirstNo
@@ -7,4 +9,3 @@ pub mod NodeLaws
 pub mod SectionLaws
 pub mod Accepted
 pub mod AcceptedValues
-pub mod AnswerLaws

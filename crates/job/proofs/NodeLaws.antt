@@ -1,23 +1,24 @@
--- What the yes to questions 10, 11 and 15 says of a node. Assumes nothing.
-use mathlib.Core.Path.{_≡_, ap, _∙_}
-use mathlib.Core.Bool.{true, _&&_}
+-- What the yes to questions 10, 50, 11 and 15 says of a node. Assumes nothing.
+use mathlib.Core.Path.{_≡_, refl, ap, _∙_}
+use mathlib.Core.Bool.{Bool, true, false, cond, _&&_, _||_}
 use mathlib.Core.List.{List}
 use Prim.Native.Nat.{ℕ, _+_, _-_, _*_, _<_, _≤_, min}
 use native.Mathlib.Omega.{arith}
 use lib.ListN.{length}
-use lib.Dec.{leb}
+use lib.Dec.{leb, ltb}
 use lib.Ieee.{Float}
 use lib.Ieee.Scale.{finite}
-use borrow.Author.Tests.{leb-true, eqb-true}
+use borrow.Author.Tests.{leb-true, eqb-true, eq-eqb, ne-eqb, lt-ltb, le-ltb}
 use Rattle.fields.specs.Real.{zero64}
 use Rattle.fields.specs.Finite.{finiteAt}
-use Rattle.loops.proofs.All.{all-at}
+use Rattle.loops.proofs.All.{all-at, all-both, all-of}
 use Rattle.job.specs.Job.{ScheduledNode, entryAt}
-use Rattle.job.specs.Format.{nodeCount, kindNumber, scheduleCount, aOf, bOf, cOf, placeOf, entryIn, nodeIn, nodesIn}
-use Rattle.loops.specs.Loops.{listed}
+use Rattle.job.specs.Format.{nodeCount, kindNumber, countByte, aOf, bOf, cOf, isEmpty, longCount, scheduleCount, placeOf, entryIn, nodeIn, nodesIn}
+use Rattle.loops.specs.Loops.{allBelow, listed}
 use Rattle.job.specs.TableEntries.{nodeOf}
-use Rattle.job.specs.Questions.{allFinite, figuresFitKind, figureFits, figuresFit, kindFits, kindsFit, entryFits, scheduleFits, schedulesFit, hasLength, schedulesRight}
-use Rattle.loops.proofs.Tests.{both}
+use Rattle.job.specs.QuestionParts.{numbersFinite, from0To1}
+use Rattle.job.specs.Questions.{allFinite, figuresFitKind, figureFits, figuresFit, kindFits, kindsFit, countFits, eachCountFits, countsFit, entryFits, scheduleFits, schedulesFit, hasLength, schedulesRight}
+use Rattle.loops.proofs.Tests.{both, half-fails, half-holds}
 use Rattle.loops.proofs.Listed.{length-listed, getD-listed}
 use Rattle.job.proofs.Places.{place-more, place-rises}
 
@@ -38,36 +39,97 @@ pub figures-finite : (nodes : List ℕ) → figuresFit nodes ≡ true → (node 
 unfolding figuresFit figureFits
 figures-finite nodes h node l = finite-figures nodes node (both (allFinite nodes node) (figuresFitKind nodes node) (all-at (figureFits nodes) node (nodeCount nodes) h l) .0)
 
-pub count-least : (nodes : List ℕ) → kindsFit nodes ≡ true → (node : ℕ) → node < nodeCount nodes → 1 ≤ scheduleCount nodes node
-unfolding kindsFit kindFits
-count-least nodes h node l = leb-true _ _ (both (leb (kindNumber nodes node) 3) _ (all-at (kindFits nodes) node (nodeCount nodes) h l) .1)
+-- ---- the count of a node's entries, by the byte or by table 6
 
-pub node-is : (nodes schedules : List ℕ) (node : ℕ) → node < nodeCount nodes → nodeOf nodes schedules node ≡ nodeIn nodes schedules node
-unfolding nodesIn
-node-is nodes schedules node l = getD-listed (nodeCount nodes) (nodeIn nodes schedules) node _ l
+module _ (nodes counts : List ℕ) (node : ℕ) {r : ℕ} where
+  pub by-byte : length counts ≡ 0 → r ≡ countByte nodes node → r ≡ scheduleCount nodes counts node
+  unfolding scheduleCount
+  by-byte e h = rw (eq-eqb _ _ e) h
+
+  pub by-table-6 : (length counts ≡ 0 → ⊥) → r ≡ longCount counts node → r ≡ scheduleCount nodes counts node
+  unfolding scheduleCount
+  by-table-6 n h = rw (ne-eqb _ _ n) h
+
+-- question 50's yes, where table 6 is not empty
+pub record CountsWhole (nodes counts : List ℕ) : Type 0 where
+  pub size : length counts ≡ nodeCount nodes * 2
+  pub each : (node : ℕ) → node < nodeCount nodes → countFits nodes counts node ≡ true
+
+pub counts-whole : (nodes counts : List ℕ) → countsFit nodes counts ≡ true → isEmpty counts ≡ false → CountsWhole nodes counts
+unfolding countsFit eachCountFits
+counts-whole nodes counts h e =
+    let whole = both (hasLength (nodeCount nodes * 2) counts) (eachCountFits nodes counts) (rw e at h) in
+    record { size = eqb-true _ _ (whole .0); each = λ node l. all-at (countFits nodes counts) node (nodeCount nodes) (whole .1) l }
+
+pub count-least :
+    (nodes counts : List ℕ) → kindsFit nodes counts ≡ true → countsFit nodes counts ≡ true → (node : ℕ) → node < nodeCount nodes
+    → 1 ≤ scheduleCount nodes counts node
+unfolding kindsFit kindFits countFits scheduleCount
+count-least nodes counts h f node l = go (isEmpty counts) refl
+  where
+    go : (z : Bool) → isEmpty counts ≡ z → 1 ≤ cond z (countByte nodes node) (longCount counts node)
+    go true e = leb-true _ _ (rw e at (both (leb (kindNumber nodes node) 3) _ (all-at (kindFits nodes counts) node (nodeCount nodes) h l) .1))
+    go false e = leb-true _ _ (both (leb 1 (longCount counts node)) _ (counts-whole nodes counts f e .each node l) .0)
 
 -- ---- schedules
 
-module _ (nodes schedules : List ℕ) (right : schedulesRight nodes schedules ≡ true) where
-  size-right : length schedules ≡ placeOf nodes (nodeCount nodes) * 8
+pub node-is :
+    (nodes counts schedules : List ℕ) (node : ℕ) → node < nodeCount nodes → nodeOf nodes counts schedules node ≡ nodeIn nodes counts schedules node
+unfolding nodesIn
+node-is nodes counts schedules node l = getD-listed (nodeCount nodes) (nodeIn nodes counts schedules) node _ l
+
+module _ (nodes counts schedules : List ℕ) (right : schedulesRight nodes counts schedules ≡ true) where
+  size-right : length schedules ≡ placeOf nodes counts (nodeCount nodes) * 8
   unfolding schedulesRight
-  size-right = eqb-true _ _ (both (hasLength (placeOf nodes (nodeCount nodes) * 8) schedules) _ right .0)
+  size-right = eqb-true _ _ (both (hasLength (placeOf nodes counts (nodeCount nodes) * 8) schedules) _ right .0)
 
-  fits : schedulesFit nodes schedules ≡ true
+  fits : schedulesFit nodes counts schedules ≡ true
   unfolding schedulesRight
-  fits = both (hasLength (placeOf nodes (nodeCount nodes) * 8) schedules) _ right .1
+  fits = both (hasLength (placeOf nodes counts (nodeCount nodes) * 8) schedules) _ right .1
 
-  pub entry-within : (node : ℕ) → node < nodeCount nodes → (placeOf nodes node + scheduleCount nodes node) * 8 ≤ length schedules
-  entry-within node l = omega (arith, size-right, place-rises nodes (node + 1) (nodeCount nodes) (omega arith), place-more nodes node)
+  module _ (node : ℕ) (l : node < nodeCount nodes) where
+    pub entry-within : (placeOf nodes counts node + scheduleCount nodes counts node) * 8 ≤ length schedules
+    entry-within = omega (arith, size-right, place-rises nodes counts (node + 1) (nodeCount nodes) (omega arith), place-more nodes counts node)
 
-  pub entry-fits : (node : ℕ) → node < nodeCount nodes → (i : ℕ) → i < scheduleCount nodes node → entryFits (kindNumber nodes node) (entryIn schedules (placeOf nodes node + i)) ≡ true
-  unfolding schedulesFit scheduleFits
-  entry-fits node l i m =
-      all-at (λ k. entryFits (kindNumber nodes node) (entryIn schedules (placeOf nodes node + k))) i (scheduleCount nodes node) (all-at (scheduleFits nodes schedules) node (nodeCount nodes) fits l) m
+    -- question 15 of an entry, its place counted from the node's first
+    entry-asked : ℕ → Bool
+    entry-asked i = entryFits (kindNumber nodes node) (entryIn schedules (placeOf nodes counts node + i))
 
-  pub entry-finite : (node : ℕ) → node < nodeCount nodes → (i : ℕ) → i < scheduleCount nodes node → finiteAt schedules ((placeOf nodes node + i) * 8) ≡ true
-  unfolding finiteAt entryFits
-  entry-finite node l i m = both (finite (entryIn schedules (placeOf nodes node + i))) _ (entry-fits node l i m) .0
+    entry-fits : (i : ℕ) → i < scheduleCount nodes counts node → entry-asked i ≡ true
+    unfolding schedulesFit scheduleFits entry-asked
+    entry-fits i m = all-at entry-asked i (scheduleCount nodes counts node) (all-at (scheduleFits nodes counts schedules) node (nodeCount nodes) fits l) m
+
+    pub entry-finite : (i : ℕ) → i < scheduleCount nodes counts node → finiteAt schedules ((placeOf nodes counts node + i) * 8) ≡ true
+    unfolding finiteAt entryFits entry-asked
+    entry-finite i m = both (finite (entryIn schedules (placeOf nodes counts node + i))) _ (entry-fits i m) .0
+
+-- question 15 of `count` entries by its two halves: a kind below 2 asks no more than that they are finite
+module _ (schedules : List ℕ) (kind place count : ℕ) where
+  abbrev pub ranged : Bool
+  ranged = allBelow (λ i. from0To1 (entryIn schedules (place + i))) count
+
+  abbrev pub fitting : Bool
+  fitting = allBelow (λ i. entryFits kind (entryIn schedules (place + i))) count
+
+  halves : fitting ≡ numbersFinite schedules place count && (ltb kind 2 || ranged)
+  unfolding entryFits
+  halves =
+      all-both (λ i. finite (entryIn schedules (place + i))) (λ i. ltb kind 2 || from0To1 (entryIn schedules (place + i))) count
+      ∙ ap (λ (t : Bool). numbersFinite schedules place count && t) (go (ltb kind 2))
+    where
+      go : (z : Bool) → allBelow (λ i. z || from0To1 (entryIn schedules (place + i))) count ≡ z || ranged
+      go true = all-of (λ i. true) count (λ i l. refl)
+      go false = refl
+
+  pub not-all-finite : numbersFinite schedules place count ≡ false → false ≡ fitting
+  not-all-finite h = half-fails _ _ halves h
+
+  module _ (h : numbersFinite schedules place count ≡ true) where
+    pub any-finite : kind < 2 → true ≡ fitting
+    any-finite l = half-holds _ _ (halves ∙ rw (lt-ltb kind 2 l)) h
+
+    pub as-ranged : {t : Bool} → 2 ≤ kind → t ≡ ranged → t ≡ fitting
+    as-ranged l e = e ∙ half-holds _ _ (halves ∙ rw (le-ltb kind 2 l)) h
 
 -- the value at step n: entry n - 1, counted from 0, and the last after it
 entry-of : (count : ℕ) (f : ℕ → Float) (n : ℕ) → 1 ≤ n → 1 ≤ count → entryAt (listed count f) n ≡ f (min n count - 1)
@@ -75,9 +137,10 @@ unfolding entryAt
 entry-of count f n l m = rw (length-listed count f) (getD-listed count f (min n count - 1) zero64 (omega arith))
 
 pub value-is :
-    (nodes schedules : List ℕ) (node n i : ℕ) → node < nodeCount nodes → 1 ≤ n → 1 ≤ scheduleCount nodes node → i ≡ min n (scheduleCount nodes node) - 1
-    → entryAt (nodeOf nodes schedules node .schedule) n ≡ entryIn schedules (placeOf nodes node + i)
+    (nodes counts schedules : List ℕ) (node n i : ℕ) → node < nodeCount nodes → 1 ≤ n → 1 ≤ scheduleCount nodes counts node
+    → i ≡ min n (scheduleCount nodes counts node) - 1
+    → entryAt (nodeOf nodes counts schedules node .schedule) n ≡ entryIn schedules (placeOf nodes counts node + i)
 unfolding nodeIn
-value-is nodes schedules node n i l m k e =
-    ap (λ (z : ScheduledNode). entryAt (z .schedule) n) (node-is nodes schedules node l)
-    ∙ rw e (entry-of (scheduleCount nodes node) (λ j. entryIn schedules (placeOf nodes node + j)) n m k)
+value-is nodes counts schedules node n i l m k e =
+    ap (λ (z : ScheduledNode). entryAt (z .schedule) n) (node-is nodes counts schedules node l)
+    ∙ rw e (entry-of (scheduleCount nodes counts node) (λ j. entryIn schedules (placeOf nodes counts node + j)) n m k)

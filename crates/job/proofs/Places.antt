@@ -8,11 +8,12 @@ use native.Mathlib.Numerals.{add-one}
 use native.Mathlib.Omega.{arith}
 use Rattle.job.specs.Format.{placeOf, scheduleCount}
 
-pub place-more : (nodes : List ℕ) (node : ℕ) → placeOf nodes (node + 1) ≡ placeOf nodes node + scheduleCount nodes node
-unfolding placeOf
-place-more nodes node = rw (add-one node)
+module _ (nodes counts : List ℕ) where
+  pub place-more : (node : ℕ) → placeOf nodes counts (node + 1) ≡ placeOf nodes counts node + scheduleCount nodes counts node
+  unfolding placeOf
+  place-more node = rw (add-one node)
 
-pub place-rises : (nodes : List ℕ) (node n : ℕ) → node ≤ n → placeOf nodes node ≤ placeOf nodes n
-unfolding placeOf
-place-rises nodes node zero l = let e : node ≡ 0 = omega arith in rw e (le-refl _)
-place-rises nodes node (suc n) l = ⊎-elim (λ e. rw e (le-refl _)) (λ o. omega (arith, place-rises nodes node n (le-of-suc-le-suc o))) (eq-or-lt-of-le l)
+  pub place-rises : (node n : ℕ) → node ≤ n → placeOf nodes counts node ≤ placeOf nodes counts n
+  unfolding placeOf
+  place-rises node zero l = let e : node ≡ 0 = omega arith in rw e (le-refl _)
+  place-rises node (suc n) l = ⊎-elim (λ e. rw e (le-refl _)) (λ o. omega (arith, place-rises node n (le-of-suc-le-suc o))) (eq-or-lt-of-le l)

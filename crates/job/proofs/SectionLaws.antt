@@ -1,13 +1,15 @@
 -- What the yes to questions 13 and 14 says of a reach and of a section. Assumes nothing.
-use mathlib.Core.Path.{_≡_, refl}
+use mathlib.Core.Path.{_≡_, refl, _∙_}
 use mathlib.Core.Bool.{true, _&&_, and-assoc}
 use mathlib.Core.List.{List}
 use Prim.Native.Nat.{ℕ, zero, suc, _+_, _*_, _/_, _<_}
+use native.Mathlib.Nat.{zero-add}
 use native.Mathlib.Omega.{arith}
 use lib.ListN.{length}
 use lib.Ieee.Scale.{finite}
+use Rattle.fields.specs.Bytes.{f64At}
 use Rattle.loops.specs.Loops.{allBelow}
-use Rattle.loops.proofs.All.{all-at, all-both}
+use Rattle.loops.proofs.All.{all-at, all-both, all-cong}
 use Rattle.job.specs.Job.{Initial}
 use Rattle.job.specs.Format.{rIn, frictionIn, sectionIn, initialIn}
 use Rattle.job.specs.TableEntries.{rOf, initialOf}
@@ -28,6 +30,10 @@ finite-section i h =
     let h-q = both (finite (i .head)) (finite (i .flow)) (hq-z .0) in
     record { head = h-q .0; flow = h-q .1; floor = hq-z .1 }
 
+-- numbers from the first on
+pub from-first : (bytes : List ℕ) (n : ℕ) → numbersFinite bytes 0 n ≡ allBelow (λ k. finite (f64At bytes (k * 8))) n
+from-first bytes n = all-cong n (λ k. finite (f64At bytes ((0 + k) * 8))) (λ k. finite (f64At bytes (k * 8))) (λ k l. rw (zero-add k))
+
 module _ (initial : List ℕ) where
   pub section-fits : initialFits initial ≡ true → (s : ℕ) → s < length initial / 24 → sectionFits (sectionIn initial s) ≡ true
   unfolding initialFits
@@ -42,15 +48,18 @@ module _ (initial : List ℕ) where
   unfolding initialFits sectionFits
   initial-halves = all-both (λ s. finiteSection (sectionIn initial s)) (λ s. notBelowFloor (sectionIn initial s)) (length initial / 24)
 
-  pub three-finite : (n : ℕ) → numbersFinite initial (n * 3) ≡ allBelow (λ s. finiteSection (sectionIn initial s)) n
+  three-each : (n : ℕ) → allBelow (λ k. finite (f64At initial (k * 8))) (n * 3) ≡ allBelow (λ s. finiteSection (sectionIn initial s)) n
   unfolding allBelow finiteSection
-  three-finite zero = refl
-  three-finite (suc n) =
+  three-each zero = refl
+  three-each (suc n) =
       let p : suc n * 3 ≡ suc (suc (suc (n * 3))) = omega arith in
       let a : n * 3 * 8 ≡ n * 24 = omega arith in
       let b : suc (n * 3) * 8 ≡ n * 24 + 8 = omega arith in
       let c : suc (suc (n * 3)) * 8 ≡ n * 24 + 16 = omega arith in
-      rw (p, a, b, c, three-finite n) (simp and-assoc)
+      rw (p, a, b, c, three-each n) (simp and-assoc)
+
+  pub three-finite : (n : ℕ) → numbersFinite initial 0 (n * 3) ≡ allBelow (λ s. finiteSection (sectionIn initial s)) n
+  three-finite n = from-first initial (n * 3) ∙ three-each n
 
   pub section-is : (s : ℕ) → s < length initial / 24 → initialOf initial s ≡ sectionIn initial s
   unfolding initialIn

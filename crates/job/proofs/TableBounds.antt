@@ -1,17 +1,17 @@
--- Where questions 1 to 4 have a yes, each table lies within the file. Assumes nothing.
+-- Where questions 1 to 4 have a yes, the pairs and each table lie within the file. Assumes nothing.
 use mathlib.Core.Path.{_≡_, refl}
-use mathlib.Core.Bool.{true}
-use mathlib.Core.List.{List}
+use mathlib.Core.Bool.{Bool, true, false, cond, _&&_}
+use mathlib.Core.List.{List, []}
 use Prim.Native.Nat.{ℕ, zero, suc, _+_, _-_, _<_, _≤_}
 use native.Mathlib.Omega.{arith}
 use native.Mathlib.Nat.{le-refl}
 use lib.ListN.{length, take, drop, length-take, length-drop}
-use lib.Dec.{leb}
-use borrow.Author.Tests.{leb-true, eqb-true, lt-ltb}
+use lib.Dec.{leb, ltb}
+use borrow.Author.Tests.{leb-true, eqb-true, lt-ltb, le-ltb}
 use Rattle.loops.specs.Loops.{allBelow}
 use Rattle.loops.proofs.All.{all-at}
 use Rattle.loops.proofs.Tests.{both}
-use Rattle.job.specs.Format.{pairCount, pairsAsked, pairsEnd, offsetOf, lengthOf, table}
+use Rattle.job.specs.Format.{pairCount, leastPairs, mostPairs, pairsEnd, offsetOf, lengthOf, table}
 use Rattle.job.specs.Questions.{beginOf, follows, sizeFits, pairsFit, tablesFollow, stepsFit, pairQuestions, firstNo}
 use Rattle.job.proofs.FirstNo.{yes}
 
@@ -30,17 +30,27 @@ pairs-right job h =
     let q4 = yes (stepsFit job) 3 _ (q3 .1) in
     record { size = q1 .0; pairs = q2 .0; tables = q3 .0; steps = q4 .0 }
 
-pub size-least : (job : List ℕ) → sizeFits job ≡ true → pairsEnd pairsAsked ≤ length job
+pub size-least : (job : List ℕ) → sizeFits job ≡ true → pairsEnd leastPairs ≤ length job
 unfolding sizeFits
-size-least job h = leb-true _ _ (both (leb (pairsEnd pairsAsked) (length job)) _ h .0)
+size-least job h = leb-true _ _ (both (leb (pairsEnd leastPairs) (length job)) _ h .0)
 
 pub size-most : (job : List ℕ) → sizeFits job ≡ true → length job ≤ 32768
 unfolding sizeFits
-size-most job h = leb-true _ _ (both (leb (pairsEnd pairsAsked) (length job)) _ h .1)
+size-most job h = leb-true _ _ (both (leb (pairsEnd leastPairs) (length job)) _ h .1)
 
-pub five-pairs : (job : List ℕ) → pairsFit job ≡ true → pairCount job ≡ pairsAsked
+pub pairs-least : (job : List ℕ) → pairsFit job ≡ true → leastPairs ≤ pairCount job
 unfolding pairsFit
-five-pairs job h = eqb-true _ _ h
+pairs-least job h =
+    let admitted = both (leb leastPairs (pairCount job) && leb (pairCount job) mostPairs) _ h .0 in
+    leb-true _ _ (both (leb leastPairs (pairCount job)) _ admitted .0)
+
+pub pairs-within : (job : List ℕ) → pairsFit job ≡ true → pairsEnd (pairCount job) ≤ length job
+unfolding pairsFit
+pairs-within job h = leb-true _ _ (both (leb leastPairs (pairCount job) && leb (pairCount job) mostPairs) _ h .1)
+
+-- the pairs of a short file are few
+pub count-short : (job : List ℕ) → PairsRight job → pairCount job < 65536
+count-short job right = omega (arith, pairs-within job (right .pairs), size-most job (right .size))
 
 -- tables that follow one another: each begins no later than the last ends
 climb :
@@ -60,15 +70,24 @@ module _ (job : List ℕ) (right : PairsRight job) where
   unfolding tablesFollow
   last = eqb-true _ _ (both (allBelow (follows job) (pairCount job)) _ (right .tables) .1)
 
-  pub table-ends : (k : ℕ) → k < pairsAsked → offsetOf job k + lengthOf job k ≤ length job
+  pub table-ends : (k : ℕ) → k < pairCount job → offsetOf job k + lengthOf job k ≤ length job
   table-ends k l =
-      let n = five-pairs job (right .pairs) in
-      let rises = climb (offsetOf job) (lengthOf job) (beginOf job) (pairCount job) follow (λ i. refl) (pairsAsked - suc k) (suc k) (omega arith) in
+      let rises = climb (offsetOf job) (lengthOf job) (beginOf job) (pairCount job) follow (λ i. refl) (pairCount job - suc k) (suc k) (omega arith) in
       rw (← last) rises
 
-  pub table-is : (k : ℕ) → k < pairsAsked → table job k ≡ take (lengthOf job k) (drop (offsetOf job k) job)
-  unfolding table
-  table-is k l = rw (lt-ltb k (pairCount job) (rw (five-pairs job (right .pairs)) l))
+-- a table that has a pair, and one that has none
+pub table-is : (job : List ℕ) (k : ℕ) → k < pairCount job → table job k ≡ take (lengthOf job k) (drop (offsetOf job k) job)
+unfolding table
+table-is job k l = rw (lt-ltb k (pairCount job) l)
 
-  pub table-short : (k : ℕ) → k < pairsAsked → length (table job k) ≤ 32768
-  table-short k l = rw (table-is k l, length-take, length-drop) (omega (arith, size-most job (right .size)))
+pub table-none : (job : List ℕ) (k : ℕ) → pairCount job ≤ k → table job k ≡ []
+unfolding table
+table-none job k l = rw (le-ltb k (pairCount job) l)
+
+pub table-short : (job : List ℕ) → sizeFits job ≡ true → (k : ℕ) → length (table job k) ≤ 32768
+unfolding table
+table-short job h k = go (ltb k (pairCount job))
+  where
+    go : (z : Bool) → length (cond z (take (lengthOf job k) (drop (offsetOf job k) job)) []) ≤ 32768
+    go true = rw (length-take, length-drop) (omega (arith, size-most job h))
+    go false = omega arith

@@ -1,5 +1,5 @@
 -- The format of a job: the pairs, the tables, and the record that the bytes are read into. Past its end a list of bytes reads as 0. Definitions only.
-use mathlib.Core.Bool.{cond}
+use mathlib.Core.Bool.{Bool, cond}
 use mathlib.Core.List.{List, [], _∷_}
 use Prim.Native.Nat.{ℕ, zero, suc, _+_, _*_, _/_}
 use lib.ListN.{length, take, drop}
@@ -17,11 +17,14 @@ pairCount job = u16At job 0
 abbrev pub listingSteps : List ℕ → ℕ
 listingSteps job = u32At job 2
 
--- the number of pairs that a job must have
-abbrev pub pairsAsked : ℕ
-pairsAsked = 5
+-- the least and the greatest number of pairs that a job may have. Request 3: "A job may have six pairs."
+abbrev pub leastPairs : ℕ
+leastPairs = 5
 
--- where n pairs end: at 46 where there are five. The pair after them begins there.
+abbrev pub mostPairs : ℕ
+mostPairs = 6
+
+-- where n pairs end: at 46 where there are five, at 54 where there are six. The pair after them begins there.
 abbrev pub pairsEnd : ℕ → ℕ
 pairsEnd n = n * 8 + 6
 
@@ -35,7 +38,7 @@ lengthOf job k = u32At job (pairsEnd k + 4)
 unfoldable pub table : List ℕ → ℕ → List ℕ
 table job k = cond (ltb k (pairCount job)) (take (lengthOf job k) (drop (offsetOf job k) job)) []
 
--- tables 1 to 5
+-- tables 1 to 6
 abbrev pub pipeTable : List ℕ → List ℕ
 pipeTable job = table job 0
 
@@ -50,6 +53,9 @@ initialTable job = table job 3
 
 abbrev pub scheduleTable : List ℕ → List ℕ
 scheduleTable job = table job 4
+
+abbrev pub countTable : List ℕ → List ℕ
+countTable job = table job 5
 
 -- ---- "1. Pipes, 12 bytes: u8 start node, u8 finish node, u16 reaches, f64 S."
 
@@ -76,8 +82,8 @@ nodeCount nodes = length nodes / 26
 abbrev pub kindNumber : List ℕ → ℕ → ℕ
 kindNumber nodes node = u8At nodes (node * 26)
 
-abbrev pub scheduleCount : List ℕ → ℕ → ℕ
-scheduleCount nodes node = u8At nodes (node * 26 + 1)
+abbrev pub countByte : List ℕ → ℕ → ℕ
+countByte nodes node = u8At nodes (node * 26 + 1)
 
 -- the figures a, b, c of a node
 abbrev pub aOf : List ℕ → ℕ → Float
@@ -114,22 +120,37 @@ sectionIn initial s =
 unfoldable pub initialIn : List ℕ → List Initial
 initialIn initial = listed (length initial / 24) (sectionIn initial)
 
+-- ---- request 3: "table 6 holds a u16 schedule count per node, and the byte in each node record is then zero. An empty table 6 means the bytes count as before."
+
+abbrev pub isEmpty : List ℕ → Bool
+isEmpty t = eqb (length t) 0
+
+abbrev pub longCount : List ℕ → ℕ → ℕ
+longCount counts node = u16At counts (node * 2)
+
+-- the number of entries in a node's schedule
+unfoldable pub scheduleCount : List ℕ → List ℕ → ℕ → ℕ
+scheduleCount nodes counts node = cond (isEmpty counts) (countByte nodes node) (longCount counts node)
+
 -- ---- "5. f64 schedules, in node order, end to end."
 
 -- the number of entries before a node's
-unfoldable pub placeOf : List ℕ → ℕ → ℕ
-placeOf nodes zero = 0
-placeOf nodes (suc node) = placeOf nodes node + scheduleCount nodes node
+unfoldable pub placeOf : List ℕ → List ℕ → ℕ → ℕ
+placeOf nodes counts zero = 0
+placeOf nodes counts (suc node) = placeOf nodes counts node + scheduleCount nodes counts node
 
 abbrev pub entryIn : List ℕ → ℕ → Float
 entryIn schedules i = f64At schedules (i * 8)
 
-unfoldable pub nodeIn : List ℕ → List ℕ → ℕ → ScheduledNode
-nodeIn nodes schedules node =
-    record { kind = kindIn nodes node; schedule = listed (scheduleCount nodes node) (λ i. entryIn schedules (placeOf nodes node + i)) }
+-- the entries of a node's schedule
+abbrev pub scheduleIn : List ℕ → List ℕ → List ℕ → ℕ → List Float
+scheduleIn nodes counts schedules node = listed (scheduleCount nodes counts node) (λ i. entryIn schedules (placeOf nodes counts node + i))
 
-unfoldable pub nodesIn : List ℕ → List ℕ → List ScheduledNode
-nodesIn nodes schedules = listed (nodeCount nodes) (nodeIn nodes schedules)
+unfoldable pub nodeIn : List ℕ → List ℕ → List ℕ → ℕ → ScheduledNode
+nodeIn nodes counts schedules node = record { kind = kindIn nodes node; schedule = scheduleIn nodes counts schedules node }
+
+unfoldable pub nodesIn : List ℕ → List ℕ → List ℕ → List ScheduledNode
+nodesIn nodes counts schedules = listed (nodeCount nodes) (nodeIn nodes counts schedules)
 
 -- ---- the job that the bytes hold
 
@@ -137,7 +158,7 @@ unfoldable pub jobOf : List ℕ → Job
 jobOf job =
     record {
       pipes = pipesIn (pipeTable job);
-      nodes = nodesIn (nodeTable job) (scheduleTable job);
+      nodes = nodesIn (nodeTable job) (countTable job) (scheduleTable job);
       friction = frictionIn (frictionTable job);
       initial = initialIn (initialTable job);
     }

@@ -2,8 +2,8 @@ pub mod Job
 pub mod Format
 pub mod Questions
 pub mod QuestionParts
-pub mod Answer
 pub mod TableEntries
 pub mod Walk
 pub mod JobQ
 pub mod OwnJobs
+pub mod SixPairs

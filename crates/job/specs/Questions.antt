@@ -1,4 +1,5 @@
--- "Questions 1 to 15 go to every call that takes a job." Each is a number and a test of the bytes. Definitions only.
+-- "Questions 1 to 15 go to every call that takes a job", and question 50 of request 3 with them. Each is a number and a test of the bytes.
+-- Definitions only.
 use mathlib.Core.Path.{_≡_}
 use mathlib.Core.Bool.{Bool, cond, not, _&&_, _||_}
 use mathlib.Core.List.{List, [], _∷_, _++_}
@@ -11,7 +12,7 @@ use Rattle.fields.specs.Real.{zero64, one64}
 use Rattle.fields.specs.Bytes.{zeroBitsAt}
 use Rattle.loops.specs.Loops.{allBelow}
 use Rattle.job.specs.Job.{Pipe, Initial, sectionsOf}
-use Rattle.job.specs.Format.{pairCount, listingSteps, pairsAsked, pairsEnd, offsetOf, lengthOf, pipeTable, nodeTable, frictionTable, initialTable, scheduleTable, pipeCount, pipeIn, pipesIn, reachesOf, nodeCount, kindNumber, scheduleCount, aOf, bOf, cOf, rIn, sectionIn, placeOf, entryIn}
+use Rattle.job.specs.Format.{pairCount, listingSteps, leastPairs, mostPairs, pairsEnd, offsetOf, lengthOf, pipeTable, nodeTable, frictionTable, initialTable, scheduleTable, countTable, pipeCount, pipeIn, pipesIn, reachesOf, nodeCount, kindNumber, countByte, aOf, bOf, cOf, rIn, sectionIn, isEmpty, longCount, scheduleCount, placeOf, entryIn}
 
 -- "not below zero", which -0 is
 abbrev pub notBelowZero : Float → Bool
@@ -21,18 +22,18 @@ notBelowZero x = not (lt x zero64)
 
 -- 1 "Has the job 46 to 32,768 bytes?"
 unfoldable pub sizeFits : List ℕ → Bool
-sizeFits job = leb (pairsEnd pairsAsked) (length job) && leb (length job) 32768
+sizeFits job = leb (pairsEnd leastPairs) (length job) && leb (length job) 32768
 
--- 2 "Are there five pairs?"
+-- 2 "an admitted number of pairs, all inside the file"
 unfoldable pub pairsFit : List ℕ → Bool
-pairsFit job = eqb (pairCount job) pairsAsked
+pairsFit job = leb leastPairs (pairCount job) && leb (pairCount job) mostPairs && leb (pairsEnd (pairCount job)) (length job)
 
 -- where table k must begin
 abbrev pub beginOf : List ℕ → ℕ → ℕ
 beginOf job zero = pairsEnd (pairCount job)
 beginOf job (suc k) = offsetOf job k + lengthOf job k
 
--- 3 "Does the first table begin at 46, each next where the last ended, and the fifth end with the file?"
+-- 3 "Question 3 has the first table begin straight after the pairs and the last end with the file", "each next where the last ended"
 unfoldable pub follows : List ℕ → ℕ → Bool
 follows job k = eqb (offsetOf job k) (beginOf job k)
 
@@ -68,12 +69,26 @@ constantFits q = finite (q .S) && lt zero64 (q .S)
 unfoldable pub constantsFit : List ℕ → Bool
 constantsFit pipes = allBelow (λ p. constantFits (pipeIn pipes p)) (pipeCount pipes)
 
--- 10 "Is each kind 0 to 3 and each schedule count at least 1?"
-unfoldable pub kindFits : List ℕ → ℕ → Bool
-kindFits nodes node = leb (kindNumber nodes node) 3 && leb 1 (scheduleCount nodes node)
+-- "the right length"
+abbrev pub hasLength : ℕ → List ℕ → Bool
+hasLength n t = eqb (length t) n
 
-unfoldable pub kindsFit : List ℕ → Bool
-kindsFit nodes = allBelow (kindFits nodes) (nodeCount nodes)
+-- 10 "Is each kind 0 to 3 and each schedule count at least 1?" and "where table 6 is not empty, question 10 asks for the kind only"
+unfoldable pub kindFits : List ℕ → List ℕ → ℕ → Bool
+kindFits nodes counts node = leb (kindNumber nodes node) 3 && (not (isEmpty counts) || leb 1 (countByte nodes node))
+
+unfoldable pub kindsFit : List ℕ → List ℕ → Bool
+kindsFit nodes counts = allBelow (kindFits nodes counts) (nodeCount nodes)
+
+-- 50 "if table 6 is neither empty nor two bytes per node, a count in it is zero, or a byte it replaces is not"
+unfoldable pub countFits : List ℕ → List ℕ → ℕ → Bool
+countFits nodes counts node = leb 1 (longCount counts node) && eqb (countByte nodes node) 0
+
+unfoldable pub eachCountFits : List ℕ → List ℕ → Bool
+eachCountFits nodes counts = allBelow (countFits nodes counts) (nodeCount nodes)
+
+unfoldable pub countsFit : List ℕ → List ℕ → Bool
+countsFit nodes counts = isEmpty counts || hasLength (nodeCount nodes * 2) counts && eachCountFits nodes counts
 
 -- 11 "Are a, b, c finite, valve a and pump a, b not below zero, fields the kind doesn't name all zero bits?"
 unfoldable pub allFinite : List ℕ → ℕ → Bool
@@ -119,10 +134,6 @@ nodesMet pipes count = allBelow (hasEnd pipes) count
 
 -- ---- values
 
--- "the right length"
-abbrev pub hasLength : ℕ → List ℕ → Bool
-hasLength n t = eqb (length t) n
-
 -- 13 "Has table 3 the right length, each R finite and not below zero?"
 unfoldable pub rFits : List ℕ → ℕ → Bool
 rFits friction r = finite (rIn friction r) && notBelowZero (rIn friction r)
@@ -150,15 +161,15 @@ initialRight pipes initial = hasLength (sectionsOf (pipesIn pipes) * 24) initial
 unfoldable pub entryFits : ℕ → Float → Bool
 entryFits kind v = finite v && (ltb kind 2 || notBelowZero v && not (lt one64 v))
 
-unfoldable pub scheduleFits : List ℕ → List ℕ → ℕ → Bool
-scheduleFits nodes schedules node =
-    allBelow (λ i. entryFits (kindNumber nodes node) (entryIn schedules (placeOf nodes node + i))) (scheduleCount nodes node)
+unfoldable pub scheduleFits : List ℕ → List ℕ → List ℕ → ℕ → Bool
+scheduleFits nodes counts schedules node =
+    allBelow (λ i. entryFits (kindNumber nodes node) (entryIn schedules (placeOf nodes counts node + i))) (scheduleCount nodes counts node)
 
-unfoldable pub schedulesFit : List ℕ → List ℕ → Bool
-schedulesFit nodes schedules = allBelow (scheduleFits nodes schedules) (nodeCount nodes)
+unfoldable pub schedulesFit : List ℕ → List ℕ → List ℕ → Bool
+schedulesFit nodes counts schedules = allBelow (scheduleFits nodes counts schedules) (nodeCount nodes)
 
-unfoldable pub schedulesRight : List ℕ → List ℕ → Bool
-schedulesRight nodes schedules = hasLength (placeOf nodes (nodeCount nodes) * 8) schedules && schedulesFit nodes schedules
+unfoldable pub schedulesRight : List ℕ → List ℕ → List ℕ → Bool
+schedulesRight nodes counts schedules = hasLength (placeOf nodes counts (nodeCount nodes) * 8) schedules && schedulesFit nodes counts schedules
 
 -- ---- the table of questions
 
@@ -184,7 +195,8 @@ pipeQuestions =
 
 unfoldable pub nodeQuestions : List Question
 nodeQuestions =
-    (10, λ job. kindsFit (nodeTable job))
+    (10, λ job. kindsFit (nodeTable job) (countTable job))
+    ∷ (50, λ job. countsFit (nodeTable job) (countTable job))
     ∷ (11, λ job. figuresFit (nodeTable job))
     ∷ (12, λ job. nodesMet (pipeTable job) (nodeCount (nodeTable job)))
     ∷ []
@@ -193,7 +205,7 @@ unfoldable pub valueQuestions : List Question
 valueQuestions =
     (13, λ job. frictionRight (pipeTable job) (frictionTable job))
     ∷ (14, λ job. initialRight (pipeTable job) (initialTable job))
-    ∷ (15, λ job. schedulesRight (nodeTable job) (scheduleTable job))
+    ∷ (15, λ job. schedulesRight (nodeTable job) (countTable job) (scheduleTable job))
     ∷ []
 
 unfoldable pub questions : List Question

@@ -16,5 +16,5 @@ abbrev pub initialOf : List ℕ → ℕ → Initial
 initialOf initial s = getD (initialIn initial) s record { head = zero64; flow = zero64; floor = zero64 }
 
 -- a node, as `nodeAt` has it of the job
-abbrev pub nodeOf : List ℕ → List ℕ → ℕ → ScheduledNode
-nodeOf nodes schedules node = getD (nodesIn nodes schedules) node record { kind = junction; schedule = [] }
+abbrev pub nodeOf : List ℕ → List ℕ → List ℕ → ℕ → ScheduledNode
+nodeOf nodes counts schedules node = getD (nodesIn nodes counts schedules) node record { kind = junction; schedule = [] }

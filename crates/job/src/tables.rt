@@ -1,6 +1,6 @@
-// The five tables of a job that questions 1 to 4 let pass, each as its own part of the file.
+// The tables of a job that questions 1 to 4 let pass, each as its own part of the file.
 ghost use mathlib.Core.Path.{_≡_};
-ghost use Rattle.job.specs.Format.{pipeTable, nodeTable, frictionTable, initialTable, scheduleTable};
+ghost use Rattle.job.specs.Format.{pipeTable, nodeTable, frictionTable, initialTable, scheduleTable, countTable};
 ghost use Rattle.job.specs.Questions.{pairQuestions, firstNo};
 
 // Table 1
@@ -41,4 +41,12 @@ pub fn schedules(job: &[u8]) -> &[u8]
     ensures { λ r. ⌜ now r ≡ scheduleTable (now (job .entry)) ⌝ }
 {
     super::pairs::table(job, 4)
+}
+
+// Table 6
+pub fn counts(job: &[u8]) -> &[u8]
+    requires { ⌜ firstNo pairQuestions (now job) ≡ 0 ⌝ }
+    ensures { λ r. ⌜ now r ≡ countTable (now (job .entry)) ⌝ }
+{
+    super::pairs::optional_table(job, 5)
 }

@@ -2,8 +2,8 @@
 // lowest first, and prints the answer to each in a line.
 ghost use Prim.Native.Nat.{_≤_, _<_};
 ghost use lib.ListN.{length};
-use job::Read;
 use libc::STDOUT_FILENO;
+use reader::Read;
 
 fn show(answer: Read) {
     match answer {
@@ -45,7 +45,7 @@ fn answered(space: &mut [u8]) -> bool
     if got < n {
         return false;
     }
-    show(job::read(&space[0..n]));
+    show(reader::read(&space[0..n]));
     true
 }
 

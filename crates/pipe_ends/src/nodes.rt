@@ -14,13 +14,14 @@ pub fn values_at(job: &[u8], step: usize) -> [f64; 32]
 {
     let nodes = job::tables::nodes(job);
     let schedules = job::tables::schedules(job);
+    let counts = job::tables::counts(job);
     let count = nodes.len() / 26;
     let mut values = [0.0f64; 32];
     let mut place = 0;
     let mut node = 0;
     while node < count {
-        values[node] = job::nodes::value_at(nodes, schedules, node, place, step);
-        place = job::nodes::next_place(nodes, node, place);
+        values[node] = job::schedules::value_at(nodes, counts, schedules, node, place, step);
+        place = job::schedules::next_place(nodes, counts, node, place);
         node += 1;
     }
     values

@@ -1,23 +1,18 @@
 -- All definitions that a figure computes through: `unfolding opened` opens each of them. Assumes nothing.
-use lib.Ieee.{ofBits, toBits, ofInt, add, sub, mul, div, neg, lt, eq}
-use Rattle.fields.specs.Bytes.{u64At, f64At, zeroBitsAt}
-use Rattle.loops.specs.Loops.{allBelow, firstBelow, listed}
+use lib.Ieee.{toBits, ofInt, add, sub, mul, div, neg, eq}
+use Rattle.loops.specs.Loops.{firstBelow}
 use Rattle.root.specs.Root.{rootOf}
 use Rattle.wave.specs.Wave.{magnitude, fromAbove, fromBelow, inner, finishK, startK, finishEnd, startEnd, sumFrom, sumsOf}
 use Rattle.wave.specs.Nodes.{rooted, valveW, valveY, orificeArgument, orificeRate, orificeFlow, valveFlow, pumpH, pumpY, pumpArgument, liftFlow, pumpFlow, headLess, headMore, judged, nodeHead}
-use Rattle.job.specs.Job.{laidFrom, laid, sectionsOf, sections, frictionAt, nodeAt, initialAt, floorAt, entryAt, scheduled, withValue}
-use Rattle.job.specs.Format.{table, pipesIn, reachesOf, kindIn, frictionIn, initialIn, placeOf, nodeIn, nodesIn, jobOf}
-use Rattle.job.specs.Questions.{sizeFits, pairsFit, follows, tablesFollow, stepsFit, holdsRecords, joins, pipesJoin, sectionsFit, constantFits, constantsFit, kindFits, kindsFit, allFinite, hasNoFigures, valveFits, pumpFits, figuresFitKind, figureFits, figuresFit, endsAt, hasEnd, nodesMet, rFits, frictionFits, frictionRight, finiteSection, sectionFits, initialFits, initialRight, entryFits, scheduleFits, schedulesFit, schedulesRight, pairQuestions, pipeQuestions, nodeQuestions, valueQuestions, questions, firstNo, refusal}
-use Rattle.job.specs.OwnJobs.{jobOfAllKinds}
-use Rattle.job.specs.JobQ.{jobQ}
+use Rattle.job.proofs.AllDefinitions as Job
 use Rattle.recurrence.specs.State.{noPoint, pointAt, startPoint, startState}
 use Rattle.recurrence.specs.Step.{alongPipes, nodesWith, along, cpAfter, cmBefore, kAtFinish, kAtStart, endsOf, sumsAt, headAt, located, atFinish, atStart, between, endToEnd, newIn, newAt, raised, lowered, updated, newPoint, advanced}
 use Rattle.recurrence.specs.Scan.{causeNumber, faultOf, earlier, scan, outcomeOf, step, acceptableAt, acceptable}
 use Rattle.recurrence.specs.Run.{stopAnswer, answerOf, ask, started, start, onward, steps, withinLimit, runOn, leftBy, playedFrom, answersFrom, played, answers, oneMore, finishedOf, ifRan, stepsBy, stepsDoneFrom, stepsDone}
 use Rattle.recurrence.specs.Calls.{enoughLent, pointIn, stateIn, holds, rowsOf, rowsAfter, readFirst, called, startResult, startCall, runOnResult, runOnCall}
-use Rattle.recurrence.specs.Figures.{patched, jobQAt12, jobQOnFloor, jobQClosing, jobQTooOpen, lentSevens, ranOn}
+use Rattle.recurrence.specs.Figures.{patched, jobQAt12, jobQRising, jobQOnFloor, jobQClosing, jobQTooOpen, lentSevens, ranOn}
 use Rattle.recurrence.specs.OwnFigures.{after, answerAfter, twoPipes, outletAt, threePipes, bothFaults, faultsUpward, minusZero}
 
 unfoldable pub opened : Unit {0}
-unfolding ofBits toBits ofInt add sub mul div neg lt eq u64At f64At zeroBitsAt allBelow firstBelow rootOf magnitude fromAbove fromBelow inner finishK startK finishEnd startEnd sumFrom sumsOf rooted valveW valveY orificeArgument orificeRate orificeFlow valveFlow pumpH pumpY pumpArgument liftFlow pumpFlow headLess headMore judged nodeHead laidFrom laid sectionsOf sections frictionAt nodeAt initialAt floorAt entryAt scheduled withValue listed table pipesIn reachesOf kindIn frictionIn initialIn placeOf nodeIn nodesIn jobOf sizeFits pairsFit follows tablesFollow stepsFit holdsRecords joins pipesJoin sectionsFit constantFits constantsFit kindFits kindsFit allFinite hasNoFigures valveFits pumpFits figuresFitKind figureFits figuresFit endsAt hasEnd nodesMet rFits frictionFits frictionRight finiteSection sectionFits initialFits initialRight entryFits scheduleFits schedulesFit schedulesRight pairQuestions pipeQuestions nodeQuestions valueQuestions questions firstNo refusal jobQ jobOfAllKinds noPoint pointAt startPoint startState alongPipes nodesWith along cpAfter cmBefore kAtFinish kAtStart endsOf sumsAt headAt located atFinish atStart between endToEnd newIn newAt raised lowered updated newPoint advanced causeNumber faultOf earlier scan outcomeOf step acceptableAt acceptable stopAnswer answerOf ask started start onward steps withinLimit runOn leftBy playedFrom answersFrom played answers oneMore finishedOf ifRan stepsBy stepsDoneFrom stepsDone enoughLent pointIn stateIn holds rowsOf rowsAfter readFirst called startResult startCall runOnResult runOnCall patched jobQAt12 jobQOnFloor jobQClosing jobQTooOpen lentSevens ranOn after answerAfter twoPipes outletAt threePipes bothFaults faultsUpward minusZero
+unfolding Job.opened toBits ofInt add sub mul div neg eq firstBelow rootOf magnitude fromAbove fromBelow inner finishK startK finishEnd startEnd sumFrom sumsOf rooted valveW valveY orificeArgument orificeRate orificeFlow valveFlow pumpH pumpY pumpArgument liftFlow pumpFlow headLess headMore judged nodeHead noPoint pointAt startPoint startState alongPipes nodesWith along cpAfter cmBefore kAtFinish kAtStart endsOf sumsAt headAt located atFinish atStart between endToEnd newIn newAt raised lowered updated newPoint advanced causeNumber faultOf earlier scan outcomeOf step acceptableAt acceptable stopAnswer answerOf ask started start onward steps withinLimit runOn leftBy playedFrom answersFrom played answers oneMore finishedOf ifRan stepsBy stepsDoneFrom stepsDone enoughLent pointIn stateIn holds rowsOf rowsAfter readFirst called startResult startCall runOnResult runOnCall patched jobQAt12 jobQRising jobQOnFloor jobQClosing jobQTooOpen lentSevens ranOn after answerAfter twoPipes outletAt threePipes bothFaults faultsUpward minusZero
 opened = tt

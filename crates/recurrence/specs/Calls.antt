@@ -94,14 +94,14 @@ readFirst bytes call = cond (eqb (refusal bytes) 0) (call (jobOf bytes)) (refuse
 unfoldable pub called : List ℕ → Rows → Result → Called
 called bytes lent x = record { rows = rowsAfter (jobOf bytes) lent x; answer = answerOf x }
 
--- the start: questions 1 to 15, then 20
+-- the start: the questions to a job, then 20
 unfoldable pub startResult : List ℕ → Rows → Result
 startResult bytes lent = readFirst bytes (λ j. start j (enoughLent j lent))
 
 unfoldable pub startCall : List ℕ → Rows → Called
 startCall bytes lent = called bytes lent (startResult bytes lent)
 
--- the run-on with m and N: questions 1 to 15, then 20, 21 and 22
+-- the run-on with m and N: the questions to a job, then 20, 21 and 22
 unfoldable pub runOnResult : List ℕ → ℕ → ℕ → Rows → Result
 runOnResult bytes m N lent =
     readFirst bytes (λ j. runOn j record { count = N; enough = enoughLent j lent } record { done = m; state = stateIn j lent })

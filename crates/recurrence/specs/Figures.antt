@@ -2,12 +2,13 @@
 use mathlib.Core.Path.{_≡_}
 use mathlib.Core.List.{List, [], _∷_, _++_}
 use Prim.Native.Nat.{ℕ}
-use lib.ListN.{getD, set, replicate}
+use lib.ListN.{getD, set, take, replicate}
 use lib.Ieee.{neg}
 use Rattle.fields.specs.Real.{zero64}
 use Rattle.root.specs.Figures.{P10}
 use Rattle.wave.specs.Figures.{BenchFigures, _is_, num}
 use Rattle.job.specs.JobQ.{jobQ}
+use Rattle.job.specs.SixPairs.{jobQLongCounts}
 use Rattle.recurrence.specs.Run.{Answer, steps}
 use Rattle.recurrence.specs.Calls.{heads, flows, Rows, gathered, Called, startCall, runOnCall}
 
@@ -30,6 +31,10 @@ jobQClosing = patched jobQ ((42, 24) ∷ (85, 2) ∷ (212, 240) ∷ (213, 63) �
 
 unfoldable pub jobQTooOpen : List ℕ
 jobQTooOpen = patched jobQ ((213, 64) ∷ [])
+
+-- job Q as six pairs with a full table 6, its reservoir at 10 and from step 2 on at 12
+unfoldable pub jobQRising : List ℕ
+jobQRising = patched (take 214 jobQLongCounts) ((42, 24) ∷ (46, 230) ∷ []) ++ 0 ∷ 0 ∷ 0 ∷ 0 ∷ 0 ∷ 0 ∷ 40 ∷ 64 ∷ (replicate 8 0 ++ 2 ∷ 0 ∷ 1 ∷ 0 ∷ [])
 
 -- ---- calls
 

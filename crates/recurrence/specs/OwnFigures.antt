@@ -11,6 +11,7 @@ use Rattle.wave.specs.Figures.{num, tenths, halved, power}
 use Rattle.job.specs.Job.{Job, Pipe, Kind, junction, reservoir, valve, ScheduledNode, Initial}
 use Rattle.job.specs.OwnJobs.{jobOfAllKinds}
 use Rattle.job.specs.JobQ.{jobQ}
+use Rattle.job.specs.SixPairs.{jobQLongCounts}
 use Rattle.recurrence.specs.State.{startState}
 use Rattle.recurrence.specs.Run.{Answer, answerOf, started, steps, leftBy}
 use Rattle.recurrence.specs.Calls.{Row, heads, flows, highest, lowest, spare, allRows, Rows, gathered, enoughLent, holds, Called, startCall, runOnCall}
@@ -111,9 +112,11 @@ pub record RefusalFigures : Type 0 where
   pub highest-not-finite : runOnCall jobQ 0 0 (holding infinity64 highest) .answer ≡ refusal 22
   pub lowest-not-finite : runOnCall jobQ 0 0 (holding (neg infinity64) lowest) .answer ≡ refusal 22
   pub past-the-count : runOnCall jobQ 0 0 (λ x. set (lentSevens x) (gathered 3 3 3 3 4 x) nan) .answer ≡ done 0
-  -- "The first no decides": 1 to 15, 20, 21, 22
+  -- "The first no decides": 1 to 15 and 50, 20, 21, 22
   pub fifteen-before-20 : runOnCall jobQTooOpen 0 1 (short heads) leaves refusedBy 15 (short heads)
   pub fifteen-before-20-start : startCall jobQTooOpen (short heads) leaves refusedBy 15 (short heads)
+  pub fifty-before-20 : runOnCall (set jobQLongCounts 222 0) 0 1 (short heads) leaves refusedBy 50 (short heads)
+  pub fifty-before-20-start : startCall (set jobQLongCounts 222 0) (short heads) leaves refusedBy 50 (short heads)
   pub one-before-20 : startCall (take 45 jobQ) (short heads) .answer ≡ refusal 1
   pub twenty-before-21 : runOnCall jobQ 1_000_001 0 (short heads) .answer ≡ refusal 20
   pub twenty-one-before-22 : runOnCall jobQ 1_000_001 0 (holding nan heads) .answer ≡ refusal 21

@@ -13,7 +13,7 @@ use Rattle.loops.specs.Loops.{listed}
 use Rattle.loops.specs.Fill.{fill}
 use Rattle.job.specs.Job.{Job, sections, initialAt}
 use Rattle.job.specs.Format.{jobOf, listingSteps, pipeTable, pipeCount}
-use Rattle.job.specs.Answer as Read
+use Rattle.reader.specs.Answer as Read
 use Rattle.job.specs.Questions.{refusal, Accepted}
 use Rattle.recurrence.specs.State.{Point, State, startPoint, startState}
 use Rattle.recurrence.specs.Scan.{acceptable}
@@ -41,7 +41,7 @@ pub enough-asked : (job : List ℕ) → Accepted job → {n p : ℕ} → n ≡ s
     → (((leb n a && leb n b) && leb n c) && leb n d) && leb (p * 4) e ≡ every (λ x. leb (inUse (jobOf job) x) (gathered a b c d e x))
 enough-asked job ok en ep a b c d e = rw (en, ep, sym (four-a-pipe job ok)) (simp (and-assoc, and-true))
 
--- What is learnt from the answer to questions 1 to 15 and 20.
+-- What is learnt from the answer to the questions to a job and to 20.
 module _ (job : List ℕ) (r : Rows) where
   abbrev j : Job
   j = jobOf job

@@ -6,9 +6,9 @@ use lib.Dec.{eqb}
 use Rattle.job.specs.Job.{sections}
 use Rattle.job.specs.Format.{listingSteps, jobOf}
 use Rattle.job.specs.Questions.{refusal}
-use Rattle.job.specs.Answer.{ReadAnswer, refused, accepted}
+use Rattle.reader.specs.Answer.{ReadAnswer, refused, accepted}
 
--- questions 1 to 15, then 20, whose answer is `enough`: the number of the first no, or what the job holds
+-- the questions to a job, then 20, whose answer is `enough`: the number of the first no, or what the job holds
 unfoldable pub firstAsked : List ℕ → Bool → ReadAnswer
 firstAsked job enough =
     cond (eqb (refusal job) 0) (cond enough (accepted (sections (jobOf job)) (listingSteps job)) (refused 20)) (refused (refusal job))

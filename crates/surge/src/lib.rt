@@ -17,7 +17,7 @@ mod state;
 pub use answer::Answer;
 pub use answer::Numbers;
 pub use answer::numbers_of;
-use job::Read;
+use reader::Read;
 use section::Scan;
 use time_step::Ended;
 

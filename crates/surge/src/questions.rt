@@ -4,11 +4,11 @@ ghost use lib.Dec.{leb};
 ghost use Rattle.job.specs.Job.{sections};
 ghost use Rattle.job.specs.Format.{jobOf};
 ghost use Rattle.job.specs.Questions.{Accepted};
-ghost use Rattle.job.specs.Answer.{paperRead};
+ghost use Rattle.reader.specs.Answer.{paperRead};
 ghost use Rattle.recurrence.specs.Run.{withinLimit};
 ghost use Rattle.recurrence.specs.Calls.{gathered, every, inUse};
 ghost use Rattle.surge.specs.Opening.{firstAsked};
-use job::Read;
+use reader::Read;
 
 // The most steps that a run may come to.
 const LIMIT: u64 = 1000000;
@@ -22,12 +22,12 @@ fn enough(job: &[u8], n: usize, a: usize, b: usize, c: usize, d: usize, e: usize
     (n <= a) & (n <= b) & (n <= c) & (n <= d) & (m <= e)
 }
 
-// Questions 1 to 15, then 20 of the lengths of the rows: the number of the first no, or what the job holds.
+// Questions 1 to 15, with 50, then 20 of the lengths of the rows: the number of the first no, or what the job holds.
 pub(super) fn read_and_enough(job: &[u8], a: usize, b: usize, c: usize, d: usize, e: usize) -> Read
     ensures { λ r. ⌜ paperRead r ≡ firstAsked (now (job .entry))
         (every (λ x. leb (inUse (jobOf (now (job .entry))) x) (gathered a b c d e x))) ⌝ }
 {
-    let read = job::read(job);
+    let read = reader::read(job);
     match read {
         Read::Refused(_) => read,
         Read::Accepted { sections, steps: _ } => {

@@ -8,7 +8,7 @@ use Rattle.recurrence.specs.Run.{Result, refused, ran, Answer, answerOf, steps}
 use Rattle.recurrence.specs.Calls.{readFirst}
 use Rattle.listing.specs.Listing.{lineText, linesText, closingText}
 
--- the run of a job: questions 1 to 15, and from the start the "steps for the listing"
+-- the run of a job: the questions to it, and from the start the "steps for the listing"
 unfoldable pub runOf : List ℕ → Result
 runOf job = readFirst job (λ j. steps j (listingSteps job) 0 (startState j))
 

@@ -10,7 +10,7 @@ ghost use Rattle.surge.specs.Answers.{paperAnswer};
 ghost use Rattle.listing.specs.Listing.{AtFront};
 ghost use Rattle.surgelist.specs.ListingOf.{listingOf};
 ghost use Rattle.surgelist.specs.LentRows.{Long, textOf};
-use job::Read;
+use reader::Read;
 use surge::Answer;
 
 // The start and the steps of an accepted job. The listing is what they leave in the rows and answer.
@@ -47,7 +47,7 @@ pub fn write_listing_of(
     requires { ⌜ (Long (lent heads flows highest lowest spare)) × (513 * 72 ≤ length (now out)) ⌝ }
     ensures { λ r. ⌜ AtFront (listingOf (now (job .entry))) (now (out .entry)) r (now (out .exit)) ⌝ }
 {
-    let read = job::read(job);
+    let read = reader::read(job);
     match read {
         Read::Refused(q) => listing::write_listing(0, q, 0, 0, heads, flows, highest, lowest, out),
         Read::Accepted { sections, steps } => {

@@ -1,14 +1,17 @@
 /* Starts job Q of document 01, runs it on to step 5 one step a call, and prints its heads after each
- * step, then the listing's line of each section. */
+ * step, then the listing's line of each section: once with five pairs, once with six and a table of
+ * schedule counts. Then come calls that are refused. */
 #include "vintuqay.h"
 #include <stdio.h>
 #include <string.h>
 
 enum { SECTIONS = 3, PIPES = 1, SPARE = VINTUQAY_SPARE_PER_PIPE * PIPES };
-enum { JOB = 46 + PIPES * 12 + 2 * 26 + 2 * 8 + SECTIONS * 24 + 2 * 8 };
+enum { NODES = 2, TABLES = PIPES * 12 + NODES * 26 + 2 * 8 + SECTIONS * 24 + 2 * 8 + NODES * 2 };
+enum { JOB = 6 + 6 * 8 + TABLES }; /* with six pairs */
 
 static uint8_t job[JOB];
 static size_t used;
+static double h[SECTIONS], q[SECTIONS], high[SECTIONS], low[SECTIONS], spare[SPARE];
 
 /* Little-endian, `width` bytes of n. */
 static void put(uint64_t n, int width) {
@@ -22,32 +25,40 @@ static void put_double(double x) {
     put(bits, 8);
 }
 
-static void put_node(int kind, double a, double b) {
+/* The count is the byte of the record, 0 where table 6 counts. */
+static void put_node(int kind, int count, double a, double b) {
     put((uint64_t)kind, 1);
-    put(1, 1); /* one scheduled value */
+    put((uint64_t)count, 1);
     put_double(a);
     put_double(b);
     put_double(0);
 }
 
-/* One pipe of two reaches, S = 1, R = 0; node 0 a reservoir at 10; node 1 a valve, a = 2, b = 6, shut.
- * Heads 10, flows 4, floors 0. */
-static void put_job_q(void) {
-    static const uint32_t lengths[5] = {PIPES * 12, 2 * 26, 2 * 8, SECTIONS * 24, 2 * 8};
-    uint32_t offset = 46;
-    put(5, 2); /* pairs */
-    put(1, 4); /* steps for the listing */
-    for (int table = 0; table < 5; table++) {
+/* The count of pairs, the steps for the listing and the pairs, each table where the last ended. */
+static void put_pairs(int pairs) {
+    static const uint32_t lengths[6] = {PIPES * 12, NODES * 26, 2 * 8, SECTIONS * 24, 2 * 8, NODES * 2};
+    uint32_t offset = 6 + 8 * (uint32_t)pairs;
+    put((uint64_t)pairs, 2);
+    put(1, 4);
+    for (int table = 0; table < pairs; table++) {
         put(offset, 4);
         put(lengths[table], 4);
         offset += lengths[table];
     }
+}
+
+/* One pipe of two reaches, S = 1, R = 0; node 0 a reservoir at 10; node 1 a valve, a = 2, b = 6, shut.
+ * Heads 10, flows 4, floors 0. With six pairs the schedules are counted in table 6. */
+static void put_job_q(int pairs) {
+    int count = pairs == 6 ? 0 : 1;
+    used = 0;
+    put_pairs(pairs);
     put(0, 1);
     put(1, 1);
     put(2, 2);
     put_double(1);
-    put_node(1, 0, 0);
-    put_node(2, 2, 6);
+    put_node(1, count, 0, 0);
+    put_node(2, count, 2, 6);
     put_double(0);
     put_double(0);
     for (int section = 0; section < SECTIONS; section++) {
@@ -57,6 +68,8 @@ static void put_job_q(void) {
     }
     put_double(10);
     put_double(0);
+    for (int node = 0; pairs == 6 && node < NODES; node++)
+        put(1, 2);
 }
 
 /* What the number of an answer says, of those that job Q meets. */
@@ -64,6 +77,10 @@ static const char *said(uint64_t answer) {
     switch (vintuqay_number(answer)) {
     case VINTUQAY_DONE:
         return "done";
+    case VINTUQAY_PAIR_COUNT:
+        return "another number of pairs";
+    case VINTUQAY_COUNT_TABLE:
+        return "table 6, or a byte that it replaces, is not right";
     case VINTUQAY_SLICE_LENGTH:
         return "a slice is too short";
     case VINTUQAY_STEP_LIMIT:
@@ -73,11 +90,10 @@ static const char *said(uint64_t answer) {
     }
 }
 
-int main(void) {
-    double h[SECTIONS], q[SECTIONS], high[SECTIONS], low[SECTIONS], spare[SPARE];
-    put_job_q();
+/* From the start to step 5, one step a call. */
+static void run_job(void) {
     uint64_t answer = vintuqay_read(job, used);
-    printf("read: %s, %u sections, %u steps\n", said(answer),
+    printf("%u bytes, %u pairs: %s, %u sections, %u steps\n", (unsigned)used, job[0], said(answer),
            vintuqay_section(answer), (unsigned)vintuqay_steps(answer));
     answer = vintuqay_start(job, used, h, SECTIONS, q, SECTIONS, high, SECTIONS, low, SECTIONS,
                             spare, SPARE);
@@ -100,8 +116,27 @@ int main(void) {
                                       line, sizeof line);
         fwrite(line, 1, length, stdout);
     }
-    answer = vintuqay_run_on(job, used, 5, 1, h, SECTIONS, q, SECTIONS - 1, high, SECTIONS, low,
-                             SECTIONS, spare, SPARE);
+}
+
+/* A byte of the job made another, read, and put back. */
+static void read_with(const char *what, size_t at, uint8_t byte) {
+    uint8_t old = job[at];
+    job[at] = byte;
+    uint64_t answer = vintuqay_read(job, used);
+    printf("%s: %u, %s\n", what, vintuqay_number(answer), said(answer));
+    job[at] = old;
+}
+
+int main(void) {
+    put_job_q(5);
+    run_job();
+    put_job_q(6);
+    run_job();
+    read_with("seven pairs", 0, 7);
+    read_with("a node's byte left at 1", 6 + 6 * 8 + PIPES * 12 + 1, 1);
+    read_with("a count of 0", used - 2, 0);
+    uint64_t answer = vintuqay_run_on(job, used, 5, 1, h, SECTIONS, q, SECTIONS - 1, high, SECTIONS, low,
+                                      SECTIONS, spare, SPARE);
     printf("flows too short: %u, %s\n", vintuqay_number(answer), said(answer));
     answer = vintuqay_run_on(job, used, 5, 1, h, SECTIONS, q, SECTIONS, high, SECTIONS, low, SECTIONS,
                              spare, SPARE - 1);

@@ -14,9 +14,10 @@
  * something is added or heads come out otherwise. Since 1.1 a valve (kind 2) is an outlet into open air
  * at head b: it lets water out, and nothing back where the head of the main falls below b (B - T*b not
  * above zero; docs/MANUAL.md, 6). Since 1.2 the root is the double nearest the exact root; before, it
- * was cut down. */
+ * was cut down. Since 1.3 a job may have six pairs, table 6 with a 16-bit schedule count per node
+ * (docs/MANUAL.md, 3); jobs of five pairs read as they did. */
 #define VINTUQAY_VERSION_MAJOR 1
-#define VINTUQAY_VERSION_MINOR 2
+#define VINTUQAY_VERSION_MINOR 3
 
 #ifdef __cplusplus
 extern "C" {
@@ -36,17 +37,18 @@ enum {
 enum vintuqay_answer {
     VINTUQAY_DONE = 0,
 
-    /* questions to every call that takes a job */
+    /* questions to every call that takes a job, in the order in which they are asked */
     VINTUQAY_JOB_LENGTH = 1,      /* has the job 46 to 32,768 bytes? */
-    VINTUQAY_PAIR_COUNT = 2,      /* are there five pairs? */
-    VINTUQAY_TABLES = 3,          /* does each table begin where the last ended, and the fifth end the job? */
+    VINTUQAY_PAIR_COUNT = 2,      /* are there five or six pairs, all inside the job? */
+    VINTUQAY_TABLES = 3,          /* does each table follow the last, the first the pairs, and the last end the job? */
     VINTUQAY_LISTING_STEPS = 4,   /* are the steps for the listing at most 1,000,000? */
     VINTUQAY_PIPE_TABLE = 5,      /* is table 1 whole, 1 to 32 pipes? */
     VINTUQAY_NODE_TABLE = 6,      /* is table 2 whole, 2 to 32 nodes? */
     VINTUQAY_PIPE = 7,            /* has each pipe two different nodes, both present, and 1 to 511 reaches? */
     VINTUQAY_SECTION_COUNT = 8,   /* are there at most 512 sections? */
     VINTUQAY_PIPE_CONSTANT = 9,   /* is each S finite and above zero? */
-    VINTUQAY_NODE_KIND = 10,      /* is each kind 0 to 3 and each schedule count at least 1? */
+    VINTUQAY_NODE_KIND = 10,      /* is each kind 0 to 3 and, with table 6 empty, each node's byte at least 1? */
+    VINTUQAY_COUNT_TABLE = 50,    /* is table 6 empty, or two bytes per node, no count 0, each node's byte 0? */
     VINTUQAY_NODE_FIGURES = 11,   /* are a, b, c finite and in range, zero bits where the kind names none? */
     VINTUQAY_NODE_END = 12,       /* has each node a pipe end? */
     VINTUQAY_FRICTION_TABLE = 13, /* has table 3 the right length, each R finite and not below zero? */
@@ -83,13 +85,13 @@ static inline uint32_t vintuqay_steps(uint64_t answer) { return (uint32_t)(answe
  */
 double vintuqay_root(double x);
 
-/* Puts questions 1 to 15 to a job, in order; the first no decides. Where all have a yes, the answer
- * carries the section count and the steps for the listing.
+/* Puts questions 1 to 15 to a job, and 50 after 10; the first no decides. Where all have a yes, the
+ * answer carries the section count and the steps for the listing.
  */
 uint64_t vintuqay_read(const uint8_t *job, size_t job_length);
 
-/* The start: questions 1 to 15, then 20 (do heads, flows, highest and lowest hold the section count,
- * and does spare hold four values per pipe?). Writes the initial heads and flows, and both envelopes as
+/* The start: questions 1 to 15 with 50, then 20 (do heads, flows, highest and lowest hold the section
+ * count, and does spare hold four values per pipe?). Writes the initial heads and flows, and both envelopes as
  * the initial heads, up to the section count, and +0 in the first four values per pipe of spare.
  * Entries past these are untouched. What spare holds before a call has no effect.
  */
@@ -102,8 +104,8 @@ uint64_t vintuqay_start(
     double *spare, size_t spare_length);
 
 /* The run-on: takes the number `done` of steps done (m) and a count (N), and does that many steps,
- * fewer only where one stops the run. Questions 1 to 15, then 20 as for the start, 21 (is m at most
- * 1,000,000 and N at most 1,000,000 - m?) and 22 (are heads, flows and envelopes finite up to the
+ * fewer only where one stops the run. Questions 1 to 15 with 50, then 20 as for the start, 21 (is m at
+ * most 1,000,000 and N at most 1,000,000 - m?) and 22 (are heads, flows and envelopes finite up to the
  * section count, no head below its floor?). A stopped step changes no state or envelope. A finished
  * step raises the maximum where the head is greater and lowers the minimum where it is less. After an
  * unrefused call, one that stopped or had no steps to do included, the first four values per pipe of

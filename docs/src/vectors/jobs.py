@@ -1,97 +1,17 @@
 #!/usr/bin/env python3
 """Writes the reader's outside vectors: crates/job_vectors/stdin and stdout, and jobs.txt beside this file.
 
-Each job is built here from pipes, nodes and numbers, and its answer is stated with it, from document
-01's questions: what was done to a good job says which question gets the first no. Nothing of the
-product is used, and nothing here reads a job.
+Each job is built here from pipes, nodes and numbers, and its answer is stated with it, from the questions of
+documents 01 and 02: what was done to a good job says which question gets the first no. Nothing of the
+product is used. job_reader.py, which reads jobs apart from these statements, must answer the same; with each
+slip that it knows it must answer otherwise somewhere.
 """
-import copy
-import math
 import pathlib
 import struct
 
-TINY = 5e-324  # the least f64 above zero
-NAN, INF = math.nan, math.inf
-
-
-def f64(x):
-    return struct.pack("<d", x)
-
-
-class Job:
-    """A job by its parts; `changed` makes one with other parts."""
-
-    def __init__(self, pipes, nodes, schedules, steps=1):
-        self.steps, self.count = steps, 5
-        self.pipes, self.nodes, self.schedules = pipes, nodes, schedules
-        reaches = sum(n for _, _, n, _ in pipes)
-        self.sections = reaches + len(pipes)
-        self.friction = [0.5] * reaches
-        self.initial = [(10.0, 4.0, 0.0)] * self.sections
-        self.odd = [b""] * 5  # bytes at the end of a table that make no record
-        self.pairs = None  # the pairs, where they are not those of the tables
-        self.after = b""  # bytes after the last table
-
-    def changed(self, **parts):
-        other = copy.deepcopy(self)
-        for name, value in parts.items():
-            setattr(other, name, value)
-        return other
-
-    def tables(self):
-        bodies = [
-            b"".join(struct.pack("<BBH", s, e, n) + f64(c) for s, e, n, c in self.pipes),
-            b"".join(struct.pack("<BB", k, len(v) if m is None else m) + f64(a) + f64(b) + f64(c)
-                     for (k, a, b, c, m), v in zip(self.nodes, self.schedules)),
-            b"".join(f64(r) for r in self.friction),
-            b"".join(f64(h) + f64(q) + f64(z) for h, q, z in self.initial),
-            b"".join(f64(x) for v in self.schedules for x in v),
-        ]
-        return [body + odd for body, odd in zip(bodies, self.odd)]
-
-    def laid(self):
-        pairs, at = [], 6 + 8 * 5
-        for body in self.tables():
-            pairs.append((at, len(body)))
-            at += len(body)
-        return pairs
-
-    def bytes(self):
-        pairs = self.laid() if self.pairs is None else self.pairs
-        head = struct.pack("<HI", self.count, self.steps) + b"".join(struct.pack("<II", *p) for p in pairs)
-        return head + b"".join(self.tables()) + self.after
-
-    def held(self):
-        return "accepted %d %d" % (self.sections, self.steps)
-
-
-def node(kind, a=0.0, b=0.0, c=0.0, count=None):
-    """A node; `count` is the schedule count where it is not the number of its entries."""
-    return (kind, a, b, c, count)
-
-
-def chain(reaches, steps=1, entries=1):
-    """A chain from a reservoir to a valve, with junctions between."""
-    n = len(reaches)
-    pipes = [(i, i + 1, r, 1.0) for i, r in enumerate(reaches)]
-    nodes = [node(1)] + [node(0)] * (n - 1) + [node(2, 2.0, 6.0)]
-    schedules = [[10.0] * entries] + [[0.0] * entries] * (n - 1) + [[0.5] * entries]
-    return Job(pipes, nodes, schedules, steps)
-
-
-def put(items, i, value):
-    return items[:i] + [value] + items[i + 1:]
-
-
-JOB_Q = chain([2]).changed(friction=[0.0, 0.0], schedules=[[10.0], [0.0]])
-
-# a reservoir, a valve, a pump and a junction; two pipes
-KINDS = Job(
-    [(0, 1, 1, 1.0), (2, 3, 3, 2.0)],
-    [node(1), node(2, 2.0, 6.0), node(3, 10.0, 1.5, -3.0), node(0)],
-    [[10.0], [1.0, 0.5, 0.25], [1.0, 0.0], [-4.0]],
-    7,
-)
+import job_reader
+import jobs_six_pairs
+from job_parts import INF, JOB_Q, KINDS, NAN, TINY, Job, chain, node, put
 
 
 def size():
@@ -116,10 +36,8 @@ def pairs():
     q = JOB_Q
     laid = q.laid()
     end = laid[4][0] + laid[4][1]
-    for n in (0, 4, 6, 256, 65535):
+    for n in (0, 1, 2, 3, 4, 7, 8, 256 * 5, 256 * 6, 65535):
         yield "%d pairs" % n, q.changed(count=n).bytes(), "refused 2"
-    six = q.changed(count=6, pairs=[(o + 8, n) for o, n in laid] + [(end + 8, 0)])
-    yield "six pairs, well laid out", six.bytes(), "refused 2"
     yield "four pairs and too many steps", q.changed(count=4, steps=2000000).bytes(), "refused 2"
     for what, i, pair in [
         ("the first table begins at 45", 0, (45, 13)),
@@ -303,12 +221,23 @@ def values():
     yield "ranges go by the node's kind, not by the entry", kinds.changed(schedules=[[2.0], [1.0, 0.5, 0.25], [1.0, 0.0], [2.0]]).bytes(), kinds.held()
 
 
+def check(rows):
+    """The reader of job_reader.py against what is stated, as it should be and with each slip."""
+    for what, job, answer in rows:
+        assert job_reader.read(job) == answer, (what, answer, job_reader.read(job))
+    for slip in job_reader.SLIPS:
+        told = [what for what, job, answer in rows if job_reader.read(job, slip) != answer]
+        assert told, "no job tells the slip '%s'" % slip
+        print("%3d jobs tell the slip '%s'" % (len(told), slip))
+
+
 def main():
     here = pathlib.Path(__file__).resolve()
     crate = here.parents[3] / "crates" / "job_vectors"
     rows = [("job Q", JOB_Q.bytes(), "accepted 3 1"), ("all four kinds", KINDS.bytes(), "accepted 6 7")]
-    for part in (size, pairs, pipes, nodes, values):
+    for part in (size, pairs, pipes, nodes, values, *jobs_six_pairs.PARTS):
         rows += list(part())
+    check(rows)
     assert len(JOB_Q.bytes()) == 214
     (crate / "stdin").write_bytes(b"".join(struct.pack("<I", len(b)) + b for _, b, _ in rows))
     (crate / "stdout").write_text("".join(answer + "\n" for _, _, answer in rows))

@@ -1,9 +1,9 @@
--- `surge::run_on` meets its contract: questions 1 to 15, then 20, 21 and 22, then the steps. Assumes nothing.
+-- `surge::run_on` meets its contract: the questions to a job, then 20, 21 and 22, then the steps. Assumes nothing.
 use mathlib.Core.Path.{_≡_, sym, ap, _∙_}
 use mathlib.Core.Bool.{true}
 use borrow.Author.Needs.{needs}
 use Rattle.job.specs.Format.{jobOf}
-use Rattle.job.specs.Answer.{paperRead}
+use Rattle.reader.specs.Answer.{paperRead}
 use Rattle.loops.proofs.Tests.{is-yes, is-no}
 use Rattle.recurrence.specs.Scan.{acceptable}
 use Rattle.recurrence.specs.Run.{withinLimit}
@@ -21,7 +21,7 @@ entry c = c .before .before .before .before .before .before
 abbrev rows : tie.After-slice-known5 → Rows
 rows c = let a = entry c .args in lent (a .heads) (a .flows) (a .highest) (a .lowest) (a .spare)
 
--- where questions 1 to 15 and 20 are asked, and where 21 and 22 are
+-- where the questions to a job and 20 are asked, and where 21 and 22 are
 abbrev asked : tie.After-within-limit → tie.After-slice-known5
 asked c = c .before .before .before .before .before
 
@@ -31,7 +31,7 @@ asked-21 c = c .before .before .before .before .before
 abbrev asked-20 : tie.After-acceptable → tie.After-slice-known5
 asked-20 c = asked (asked-21 c)
 
--- questions 1 to 15 and 20 have a yes
+-- the questions to a job and 20 have a yes
 first-yes : (c : tie.After-read2)
     → let first : tie.After-read-and-enough = c .before .before in Opened (entry (first .before) .args .job .now) (rows (first .before)) (c .read2 .given .0 .0)
 first-yes c = opened _ _ _ _ (ap paperRead (sym (c .read2 .given .1)) ∙ c .before .before .read-and-enough .ensures)

@@ -1,7 +1,7 @@
--- `surge::start` meets its contract: questions 1 to 15, then 20, then the start. Assumes nothing.
+-- `surge::start` meets its contract: the questions to a job, then 20, then the start. Assumes nothing.
 use mathlib.Core.Path.{sym, ap, _∙_}
 use borrow.Author.Needs.{needs}
-use Rattle.job.specs.Answer.{paperRead}
+use Rattle.reader.specs.Answer.{paperRead}
 use Rattle.recurrence.specs.Calls.{Rows}
 use Rattle.recurrence.specs.Slices.{lent}
 use Rattle.surge.proofs.CallLaws.{Opened, opened, start-refused, start-ran}
@@ -15,7 +15,7 @@ entry c = c .before .before .before .before .before .before
 abbrev rows : tie.After-slice-known5 → Rows
 rows c = let a = entry c .args in lent (a .heads) (a .flows) (a .highest) (a .lowest) (a .spare)
 
--- questions 1 to 15 and 20 have a yes
+-- the questions to a job and 20 have a yes
 first-yes : (c : tie.After-read2)
     → let asked : tie.After-read-and-enough = c .before .before in Opened (entry (asked .before) .args .job .now) (rows (asked .before)) (c .read2 .given .0 .0)
 first-yes c = opened _ _ _ _ (ap paperRead (sym (c .read2 .given .1)) ∙ c .before .before .read-and-enough .ensures)

@@ -4,6 +4,7 @@ use crate::cases::{self, Call};
 use crate::ours::{self, Answer};
 use crate::outlets;
 use crate::tally::Tally;
+use crate::ways;
 use reference::generate::Random;
 use reference::reader;
 use reference::refusal::Refused;
@@ -100,6 +101,7 @@ pub fn read(tally: &mut Tally, job: &[u8]) -> Answer {
         differ("read", job, &format!("{answer:?}, where {expected:?} was expected"));
     }
     tally.count("jobs read", 1);
+    ways::count(tally, job, answer.number);
     tally.answer(answer)
 }
 

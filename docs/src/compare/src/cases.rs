@@ -1,8 +1,9 @@
-//! The cases of the lent slices that a call can meet. Each must be reached by the comparison.
+//! The cases of the lent slices and of long schedules that a call can meet. Each must be reached by the comparison.
 
 use crate::both::Lent;
 use crate::ours::Answer;
 use crate::tally::Tally;
+use reference::job::Job;
 use reference::reader::read;
 use reference::rows::{Lengths, SPARE};
 
@@ -26,6 +27,10 @@ const NANS_NO_STEPS: &str = "run-ons of no steps lent a spare of NaNs";
 const NANS_STOPPED: &str = "stopped run-ons lent a spare of NaNs";
 const NANS_REFUSED: &str = "refused calls lent a spare of NaNs, which are left";
 
+const PAST_255: &str = "nodes that read an entry past the 255th at the last step of a run-on";
+const PAST_LONG: &str =
+    "nodes past the end of a schedule of more than 255 entries at the last step of a run-on";
+
 /// Calls refused for one slice alone, in the order of the slices.
 const ALONE: [&str; 5] = [
     "calls refused for the heads alone",
@@ -39,7 +44,7 @@ const ALONE: [&str; 5] = [
 pub fn all() -> Vec<&'static str> {
     let spare = [SPARE_ONE_SHORT, SPARE_OF_SECTIONS, SPARE_ENOUGH, SPARE_UNDER_SECTIONS];
     let nans = [NANS_STARTED, NANS_FINISHED, NANS_NO_STEPS, NANS_STOPPED, NANS_REFUSED];
-    [&ALONE[..], &spare, &[SPARE_LONGER], &nans].concat()
+    [&ALONE[..], &spare, &[SPARE_LONGER], &nans, &[PAST_255, PAST_LONG]].concat()
 }
 
 /// Counts the cases of a call that was answered so, the slices as they were lent.
@@ -47,6 +52,9 @@ pub fn count(tally: &mut Tally, job: &[u8], call: Call, lent: &Lent, answer: Ans
     let Ok(job) = read(job) else {
         return;
     };
+    if matches!(call, Call::RunOn(1..)) && answer.number == 0 {
+        long_schedules(tally, &job, answer.steps);
+    }
     let needed = job.needed();
     if answer.number == 20 {
         too_short(tally, needed, lent.lengths);
@@ -56,6 +64,14 @@ pub fn count(tally: &mut Tally, job: &[u8], call: Call, lent: &Lent, answer: Ans
     }
     if lent.store.rows[SPARE][..needed[SPARE]].iter().all(|x| x.is_nan()) {
         tally.count(of_nans(call, answer), 1);
+    }
+}
+
+/// What the nodes with more than 255 entries read at the step.
+fn long_schedules(tally: &mut Tally, job: &Job, step: u64) {
+    let lengths = job.nodes.iter().map(|node| node.schedule.len() as u64);
+    for length in lengths.filter(|&length| length > 255 && step > 255) {
+        tally.count(if step <= length { PAST_255 } else { PAST_LONG }, 1);
     }
 }
 

@@ -1,9 +1,10 @@
 //! The proved calculator, called through its C interface, against the reference implementation.
 //!
 //! - [`ours`]: the C interface; [`both`]: a call of both, compared in every bit.
-//! - [`parts`]: what is compared; [`tally`]: how many of each, and which numbers were reached;
-//!   [`cases`], [`outlets`]: which cases of the lent slices and of the valves and pumps were;
-//!   [`cut_down`]: the root as it was, to count where it differs.
+//! - [`parts`]: what is compared; [`tally`]: how many of each, and which numbers were reached.
+//! - Which cases were reached: [`cases`], of the lent slices and of long schedules; [`ways`], of the
+//!   refusals; [`outlets`], of the valves and pumps; [`cut_down`]: the root as it was, to count where
+//!   it differs.
 //! - [`distance`]: how far each section is from a node, for demand 3.
 
 pub mod both;
@@ -14,3 +15,4 @@ pub mod ours;
 pub mod outlets;
 pub mod parts;
 pub mod tally;
+pub mod ways;

@@ -1,9 +1,10 @@
 //! What is compared, each part with a seed of its own.
 
-use crate::{cases, outlets};
+use crate::{cases, outlets, ways};
 
 mod calls;
 mod edits;
+mod forms;
 mod jobs;
 mod lines;
 mod lists;
@@ -11,6 +12,7 @@ mod roots;
 
 pub use calls::calls;
 pub use edits::edits;
+pub use forms::forms;
 pub use jobs::{accepted_jobs, damaged_jobs};
 pub use lines::{lines, listings};
 pub use lists::lists;
@@ -20,8 +22,11 @@ pub use roots::roots;
 pub fn to_be_reached() -> Vec<(&'static str, u64)> {
     let mut cases = cases::all();
     cases.extend(outlets::all());
-    cases.extend([lists::SPARE_TOO_SHORT, edits::SHARP]);
+    cases.extend([lists::SPARE_TOO_SHORT, forms::LONGEST_FULL, forms::LONGEST_EMPTY]);
     let mut counts: Vec<_> = cases.into_iter().map(|case| (case, 1)).collect();
+    counts.extend(ways::all().into_iter().map(|way| (way, 5)));
+    counts.push(forms::IN_ALL_FORMS);
+    counts.extend(edits::all());
     counts.extend(roots::all());
     counts
 }

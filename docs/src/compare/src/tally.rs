@@ -1,11 +1,11 @@
 //! How many of each were tried, and which numbers the proved calculator answered with.
 
 use crate::ours::Answer;
+use reference::reader::QUESTIONS;
 use std::collections::BTreeMap;
 
-/// Every number of a refusal or a stop in document 01.
-pub const NUMBERS: [u64; 22] =
-    [1, 2, 3, 4, 5, 6, 7, 8, 9, 10, 11, 12, 13, 14, 15, 20, 21, 22, 23, 24, 40, 41];
+/// Every number of a refusal or a stop, those to every job apart, which the reader has.
+const OTHER_NUMBERS: [u8; 7] = [20, 21, 22, 23, 24, 40, 41];
 
 #[derive(Default)]
 pub struct Tally {
@@ -57,8 +57,9 @@ impl Tally {
         too_few.map(|&(case, _)| case).collect()
     }
 
-    /// The numbers of document 01 that were not reached.
+    /// The numbers that were not reached.
     pub fn missing(&self) -> Vec<u64> {
-        NUMBERS.iter().copied().filter(|number| !self.numbers.contains_key(number)).collect()
+        let numbers = QUESTIONS.iter().chain(&OTHER_NUMBERS).map(|&number| u64::from(number));
+        numbers.filter(|number| !self.numbers.contains_key(number)).collect()
     }
 }

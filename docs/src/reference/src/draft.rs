@@ -1,11 +1,15 @@
 //! A job as a program puts it together, before it is written down as bytes. Nothing is judged
 //! here, so that jobs to be refused can be written too.
 
-use crate::job::{Job, Kind};
+use crate::job::Kind;
+use crate::layout::{pair_at, Form, MOST_PAIRS};
+use crate::reader::read;
+use crate::refusal::Refused;
 use crate::rows::{needed, Lengths};
 
 #[derive(Clone, Debug, Default, PartialEq)]
 pub struct Draft {
+    pub form: Form,
     /// Steps for the listing.
     pub steps: u32,
     pub pipes: Vec<DraftPipe>,
@@ -29,7 +33,7 @@ pub struct DraftNode {
     pub kind: u8,
     /// a, b and c.
     pub figures: [f64; 3],
-    /// At most 255 entries, since a record counts them in a byte.
+    /// At most as many entries as the draft's form can count.
     pub schedule: Vec<f64>,
 }
 
@@ -82,12 +86,26 @@ impl Draft {
 
     /// How many bytes the job has.
     pub fn byte_count(&self) -> usize {
-        let entries: usize = self.nodes.iter().map(|node| node.schedule.len()).sum();
-        46 + 12 * self.pipes.len()
-            + 26 * self.nodes.len()
-            + 8 * self.friction.len()
-            + 24 * self.sections.len()
-            + 8 * entries
+        self.bytes().len()
+    }
+
+    /// Entries of the longest schedule.
+    pub fn longest_schedule(&self) -> usize {
+        self.nodes.iter().map(|node| node.schedule.len()).max().unwrap_or(0)
+    }
+
+    /// Five pairs where a byte counts each schedule, else six with a full table 6.
+    pub fn fewest_pairs(&self) -> Form {
+        if self.longest_schedule() <= Form::FivePairs.most_entries() {
+            Form::FivePairs
+        } else {
+            Form::FullTable6
+        }
+    }
+
+    /// The same job in another form.
+    pub fn in_form(&self, form: Form) -> Draft {
+        Draft { form, ..self.clone() }
     }
 
     /// The bytes of the job.
@@ -96,11 +114,11 @@ impl Draft {
     }
 
     /// The bytes of a job of these tables, each next one where the last ended.
-    pub fn bytes_of(steps: u32, tables: &[Vec<u8>; 5]) -> Vec<u8> {
+    pub fn bytes_of(steps: u32, tables: &[Vec<u8>]) -> Vec<u8> {
         let mut bytes = Vec::new();
-        bytes.extend(5_u16.to_le_bytes());
+        bytes.extend((tables.len() as u16).to_le_bytes());
         bytes.extend(steps.to_le_bytes());
-        let mut offset = 46;
+        let mut offset = pair_at(tables.len());
         for table in tables {
             bytes.extend((offset as u32).to_le_bytes());
             bytes.extend((table.len() as u32).to_le_bytes());
@@ -112,16 +130,23 @@ impl Draft {
         bytes
     }
 
-    /// The five tables.
-    pub fn tables(&self) -> [Vec<u8>; 5] {
-        let mut tables: [Vec<u8>; 5] = Default::default();
+    /// The tables, as many as the form has pairs.
+    pub fn tables(&self) -> Vec<Vec<u8>> {
+        let mut tables: [Vec<u8>; MOST_PAIRS] = Default::default();
         for pipe in &self.pipes {
             tables[0].extend([pipe.start, pipe.finish]);
             tables[0].extend(pipe.reaches.to_le_bytes());
             push_numbers(&mut tables[0], &[pipe.s]);
         }
         for node in &self.nodes {
-            tables[1].extend([node.kind, node.schedule.len() as u8]);
+            let (count, mut byte) = (node.schedule.len(), 0);
+            if self.form == Form::FullTable6 {
+                let count = u16::try_from(count).expect("a u16 counts the schedule");
+                tables[5].extend(count.to_le_bytes());
+            } else {
+                byte = u8::try_from(count).expect("a byte counts the schedule");
+            }
+            tables[1].extend([node.kind, byte]);
             push_numbers(&mut tables[1], &node.figures);
             push_numbers(&mut tables[4], &node.schedule);
         }
@@ -129,19 +154,12 @@ impl Draft {
         for section in &self.sections {
             push_numbers(&mut tables[3], section);
         }
-        tables
+        tables.into_iter().take(self.form.pairs()).collect()
     }
-}
 
-fn push_numbers(bytes: &mut Vec<u8>, numbers: &[f64]) {
-    for number in numbers {
-        bytes.extend(number.to_bits().to_le_bytes());
-    }
-}
-
-impl From<&Job> for Draft {
-    /// The draft whose bytes the job was read from.
-    fn from(job: &Job) -> Draft {
+    /// The draft whose bytes these are.
+    pub fn read(bytes: &[u8]) -> Result<Draft, Refused> {
+        let job = read(bytes)?;
         let pipes = job.pipes.iter().map(|pipe| DraftPipe {
             start: pipe.start as u8,
             finish: pipe.finish as u8,
@@ -154,12 +172,19 @@ impl From<&Job> for Draft {
             Kind::Valve { a, b } => DraftNode::valve(a, b, &node.schedule),
             Kind::Pump { a, b, c } => DraftNode::pump(a, b, c, &node.schedule),
         });
-        Draft {
+        Ok(Draft {
+            form: Form::of(bytes),
             steps: job.steps,
             pipes: pipes.collect(),
             nodes: nodes.collect(),
-            friction: job.friction.clone(),
+            friction: job.friction,
             sections: job.initial.iter().map(|at| [at.head, at.flow, at.floor]).collect(),
-        }
+        })
+    }
+}
+
+fn push_numbers(bytes: &mut Vec<u8>, numbers: &[f64]) {
+    for number in numbers {
+        bytes.extend(number.to_bits().to_le_bytes());
     }
 }

@@ -1,7 +1,7 @@
 //! Document 01 ("Water hammer in pumping mains: the calculator"), with what has landed of document 02,
 //! implemented a second time, from the papers alone, to compare the proved calculator with.
 //!
-//! - [`reader`]: questions 1 to 15; [`job`]: what an accepted job says.
+//! - [`reader`]: questions 1 to 15 and 50; [`layout`]: pairs, tables and forms; [`job`]: what an accepted job says.
 //! - [`root`], [`wave`], [`node`]: the equations, rounded once an operation in the written order.
 //! - [`run`]: start and run-on over five lent slices ([`rows`]); [`listing`]: the lines of the program.
 //! - [`baseline`]: the same run-on written for speed.
@@ -16,6 +16,7 @@ pub mod fields;
 pub mod generate;
 pub mod job;
 pub mod lauria;
+pub mod layout;
 pub mod listing;
 pub mod node;
 pub mod reader;

@@ -1,25 +1,30 @@
-//! The job reader: questions 1 to 15, the first no decides, and each question runs through its
-//! whole table before the next.
+//! The job reader: questions 1 to 15 with 50 after 10, the first no decides, and each question runs
+//! through its whole table before the next.
 
 use crate::fields::{all_f64, f64_at, u16_at, u32_at};
 use crate::job::{Initial, Job, Kind, Node, Pipe};
+use crate::layout::{pair_at, pairs_admitted, tables, tables_adjoin, FEWEST_PAIRS};
 use crate::refusal::{ask, Refused};
 
-/// Where the first table begins: after the count, the steps and five pairs.
-pub const FIRST_TABLE: usize = 46;
+/// The questions to every call that takes a job, in the order in which they are asked.
+pub const QUESTIONS: [u8; 16] = [1, 2, 3, 4, 5, 6, 7, 8, 9, 10, 50, 11, 12, 13, 14, 15];
+
+/// The count, the steps and the fewest pairs.
+pub const FEWEST_BYTES: usize = pair_at(FEWEST_PAIRS);
 pub const MOST_BYTES: usize = 32_768;
 pub const MOST_STEPS: u64 = 1_000_000;
 pub const MOST_SECTIONS: usize = 512;
 pub const MOST_PIPES: usize = 32;
 
-/// Asks questions 1 to 15 and hands back what the job says.
+/// Asks the questions and hands back what the job says.
 pub fn read(bytes: &[u8]) -> Result<Job, Refused> {
-    ask(1, (FIRST_TABLE..=MOST_BYTES).contains(&bytes.len()))?;
-    ask(2, u16_at(bytes, 0) == 5)?;
+    ask(1, (FEWEST_BYTES..=MOST_BYTES).contains(&bytes.len()))?;
+    ask(2, pairs_admitted(bytes))?;
     ask(3, tables_adjoin(bytes))?;
     let steps = u32_at(bytes, 2);
     ask(4, u64::from(steps) <= MOST_STEPS)?;
-    let [pipe_table, node_table, friction_table, section_table, schedule_table] = tables(bytes);
+    let [pipe_table, node_table, friction_table, section_table, schedule_table, count_table] =
+        tables(bytes);
     ask(5, whole_records(pipe_table, 12, 1, MOST_PIPES))?;
     ask(6, whole_records(node_table, 26, 2, 32))?;
     let pipes = read_pipes(pipe_table);
@@ -28,7 +33,9 @@ pub fn read(bytes: &[u8]) -> Result<Job, Refused> {
     let sections: usize = pipes.iter().map(|pipe| pipe.reaches + 1).sum();
     ask(8, sections <= MOST_SECTIONS)?;
     ask(9, pipes.iter().all(|pipe| pipe.s.is_finite() && pipe.s > 0.0))?;
-    ask(10, nodes.iter().all(|node| node.kind <= 3 && node.count >= 1))?;
+    let byte_counts = count_table.is_empty();
+    ask(10, nodes.iter().all(|node| node.kind <= 3 && (!byte_counts || node.byte >= 1)))?;
+    ask(50, byte_counts || counts_admitted(count_table, &nodes))?;
     ask(11, nodes.iter().all(NodeRecord::figures_admitted))?;
     ask(12, (0..nodes.len()).all(|number| has_pipe_end(number, &pipes)))?;
     let reaches: usize = pipes.iter().map(|pipe| pipe.reaches).sum();
@@ -38,9 +45,9 @@ pub fn read(bytes: &[u8]) -> Result<Job, Refused> {
     ask(14, section_table.len() == 24 * sections)?;
     let initial: Vec<Initial> = section_table.chunks_exact(24).map(read_section).collect();
     ask(14, initial.iter().all(section_admitted))?;
-    let entries: usize = nodes.iter().map(|node| node.count).sum();
-    ask(15, schedule_table.len() == 8 * entries)?;
-    let nodes = with_schedules(&nodes, &all_f64(schedule_table));
+    let counts = counts_in_force(count_table, &nodes);
+    ask(15, schedule_table.len() == 8 * counts.iter().sum::<usize>())?;
+    let nodes = with_schedules(&nodes, &counts, &all_f64(schedule_table));
     ask(15, nodes.iter().all(schedule_admitted))?;
     Ok(Job { steps, pipes, nodes, friction, initial })
 }
@@ -48,33 +55,6 @@ pub fn read(bytes: &[u8]) -> Result<Job, Refused> {
 /// Neither zero is below zero; the reader asks this of finite numbers.
 fn not_below_zero(x: f64) -> bool {
     x >= 0.0
-}
-
-/// Pair `number` of the header, counted from 0: offset and length, wide enough to be added.
-fn pair(bytes: &[u8], number: usize) -> (u64, u64) {
-    let at = 6 + 8 * number;
-    (u64::from(u32_at(bytes, at)), u64::from(u32_at(bytes, at + 4)))
-}
-
-/// Question 3.
-fn tables_adjoin(bytes: &[u8]) -> bool {
-    let mut end = FIRST_TABLE as u64;
-    for number in 0..5 {
-        let (offset, length) = pair(bytes, number);
-        if offset != end {
-            return false;
-        }
-        end = offset + length;
-    }
-    end == bytes.len() as u64
-}
-
-/// Each table as its own part of the file; the tables adjoin.
-fn tables(bytes: &[u8]) -> [&[u8]; 5] {
-    std::array::from_fn(|number| {
-        let (offset, length) = pair(bytes, number);
-        &bytes[offset as usize..(offset + length) as usize]
-    })
 }
 
 /// Questions 5 and 6: whole records of `width` bytes, `least` to `most` of them.
@@ -118,7 +98,8 @@ fn has_pipe_end(number: usize, pipes: &[Pipe]) -> bool {
 /// A record of table 2 as it stands, before its kind is known to be one of the four.
 struct NodeRecord {
     kind: u8,
-    count: usize,
+    /// The schedule count where table 6 is empty.
+    byte: u8,
     a: f64,
     b: f64,
     c: f64,
@@ -128,7 +109,7 @@ impl NodeRecord {
     fn read(record: &[u8]) -> NodeRecord {
         NodeRecord {
             kind: record[0],
-            count: usize::from(record[1]),
+            byte: record[1],
             a: f64_at(record, 2),
             b: f64_at(record, 10),
             c: f64_at(record, 18),
@@ -159,6 +140,21 @@ impl NodeRecord {
     }
 }
 
+/// Question 50 where table 6 is not empty.
+fn counts_admitted(table: &[u8], nodes: &[NodeRecord]) -> bool {
+    table.len() == 2 * nodes.len()
+        && table.chunks_exact(2).all(|count| u16_at(count, 0) >= 1)
+        && nodes.iter().all(|node| node.byte == 0)
+}
+
+/// How many entries each node's schedule has, in either form.
+fn counts_in_force(table: &[u8], nodes: &[NodeRecord]) -> Vec<usize> {
+    if table.is_empty() {
+        return nodes.iter().map(|node| usize::from(node.byte)).collect();
+    }
+    table.chunks_exact(2).map(|count| usize::from(u16_at(count, 0))).collect()
+}
+
 fn read_section(record: &[u8]) -> Initial {
     Initial { head: f64_at(record, 0), flow: f64_at(record, 8), floor: f64_at(record, 16) }
 }
@@ -170,11 +166,11 @@ fn section_admitted(section: &Initial) -> bool {
 }
 
 /// Table 5 holds the schedules in node order, end to end.
-fn with_schedules(records: &[NodeRecord], entries: &[f64]) -> Vec<Node> {
+fn with_schedules(records: &[NodeRecord], counts: &[usize], entries: &[f64]) -> Vec<Node> {
     let mut rest = entries;
     let mut nodes = Vec::new();
-    for record in records {
-        let (schedule, after) = rest.split_at(record.count);
+    for (record, &count) in records.iter().zip(counts) {
+        let (schedule, after) = rest.split_at(count);
         nodes.push(Node { kind: record.figures(), schedule: schedule.to_vec() });
         rest = after;
     }

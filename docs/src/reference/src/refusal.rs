@@ -1,4 +1,4 @@
-//! The numbers under which document 01 refuses a call, and what they ask in words.
+//! The numbers under which documents 01 and 02 refuse a call, and what they ask in words.
 
 use std::fmt;
 
@@ -20,15 +20,21 @@ impl Refused {
     pub fn words(self) -> &'static str {
         match self.0 {
             1 => "a job has 46 to 32,768 bytes",
-            2 => "a job has five pairs of offset and length",
-            3 => "the first table begins at byte 46, each next one where the last ended, and the fifth ends with the file",
+            2 => "a job has five or six pairs of offset and length, all inside the file",
+            3 => {
+                "the first table begins straight after the pairs, each next one where the last ended, \
+                 and the last ends with the file"
+            }
             4 => "the steps for the listing are at most 1,000,000",
             5 => "table 1 is made of whole records of 12 bytes, 1 to 32 pipes",
             6 => "table 2 is made of whole records of 26 bytes, 2 to 32 nodes",
             7 => "each pipe joins two different nodes, both present, by 1 to 511 reaches",
             8 => "there are at most 512 sections",
             9 => "each pipe's S is finite and above zero",
-            10 => "each node's kind is 0 to 3 and its schedule has at least one entry",
+            10 => {
+                "each node's kind is 0 to 3 and, where table 6 is empty, the schedule count in its \
+                 record is at least 1"
+            }
             11 => "each node's a, b and c are finite, a valve's a and a pump's a and b not below zero, and figures that its kind does not name are all zero bits",
             12 => "each node has a pipe end",
             13 => "table 3 has one R for each reach, finite and not below zero",
@@ -39,7 +45,11 @@ impl Refused {
             22 => "heads, flows and envelopes lent are finite, and no head is below its floor",
             23 => "a root is taken of a finite number not below zero",
             24 => "a line is written for a section below 512 into at least 72 bytes",
-            _ => "no question of document 01 has this number",
+            50 => {
+                "table 6 is empty, or it has two bytes per node, each count in it is at least 1, \
+                 and the byte that it replaces in each node's record is 0"
+            }
+            _ => "no question of documents 01 and 02 has this number",
         }
     }
 }

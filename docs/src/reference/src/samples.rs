@@ -2,7 +2,10 @@
 
 use crate::draft::{Draft, DraftNode};
 use crate::lauria;
+use crate::layout::Form;
 use std::f64::consts::PI;
+
+pub mod timed;
 
 /// A sample job: the name of its file, a line on what it is, and the job.
 pub struct Sample {
@@ -11,8 +14,16 @@ pub struct Sample {
     pub draft: Draft,
 }
 
+fn sample(name: &'static str, about: &'static str, draft: Draft) -> Sample {
+    Sample { name, about, draft }
+}
+
 pub fn all() -> Vec<Sample> {
-    let sample = |name, about, draft| Sample { name, about, draft };
+    [of_job_q(), of_mains(), others()].into_iter().flatten().collect()
+}
+
+/// Job Q in each form.
+fn of_job_q() -> Vec<Sample> {
     vec![
         sample(
             "job-q",
@@ -20,9 +31,25 @@ pub fn all() -> Vec<Sample> {
             job_q(),
         ),
         sample(
+            "job-q-six-pairs",
+            "Job Q with six pairs and an empty table 6: the bytes of the node records count the schedules.",
+            job_q().in_form(Form::EmptyTable6),
+        ),
+        sample(
+            "job-q-long-counts",
+            "Job Q with six pairs: table 6 counts the schedules, and the bytes of the node records are zero.",
+            job_q().in_form(Form::FullTable6),
+        ),
+    ]
+}
+
+/// Mains and networks that run to their end.
+fn of_mains() -> Vec<Sample> {
+    vec![
+        sample(
             "rising-main",
             "A rising main of 2,000 m: the pump is slowed down over 24 s and its non-return valve shuts.",
-            rising_main(&slowing_down(240)),
+            rising_main(&down_to_zero(240)),
         ),
         sample(
             "branches-and-loop",
@@ -34,6 +61,22 @@ pub fn all() -> Vec<Sample> {
             "A main to an outlet over a ditch: a hydrant takes the head below the outlet, which then draws nothing.",
             ditch_outlet(),
         ),
+        sample(
+            "slow-gate",
+            "A gate at the end of a gravity main of 3,000 m, shut over 50 s in 500 openings.",
+            gate(500),
+        ),
+        sample(
+            "fast-gate",
+            "The same gate shut over 10 s in 100 openings.",
+            gate(100),
+        ),
+    ]
+}
+
+/// Runs that are stopped, and one of a thesis.
+fn others() -> Vec<Sample> {
+    vec![
         sample(
             "stops-as-40",
             "A friction a thousand times too large: the flows run away and the run stops as 40 (notfinite).",
@@ -50,6 +93,26 @@ pub fn all() -> Vec<Sample> {
             lauria::draft(),
         ),
     ]
+}
+
+/// The bytes of every job in the folder `jobs`, by the name of its file: the samples, job Q over more
+/// steps, and one to be refused.
+pub fn jobs() -> Vec<(String, Vec<u8>)> {
+    let mut jobs: Vec<_> =
+        all().into_iter().map(|sample| (sample.name.to_string(), sample.draft.bytes())).collect();
+    for steps in [2, 3, 5] {
+        jobs.push((format!("job-q-{steps}-steps"), Draft { steps, ..job_q() }.bytes()));
+    }
+    jobs.push(("seventh-pair".to_string(), seventh_pair()));
+    jobs
+}
+
+/// Job Q with table 6 and an unknown table 7 of eight bytes, all well laid out.
+fn seventh_pair() -> Vec<u8> {
+    let draft = job_q().in_form(Form::FullTable6);
+    let mut tables = draft.tables();
+    tables.push(vec![0; 8]);
+    Draft::bytes_of(draft.steps, &tables)
 }
 
 /// Document 01's job Q.
@@ -95,8 +158,8 @@ impl PipeFigures {
     }
 }
 
-/// Speeds from 1 down to 0 in equal parts.
-fn slowing_down(steps: u32) -> Vec<f64> {
+/// Speeds or openings from 1 down to 0 in equal parts.
+fn down_to_zero(steps: u32) -> Vec<f64> {
     (1..=steps).map(|step| f64::from(steps - step) / f64::from(steps)).collect()
 }
 
@@ -123,6 +186,32 @@ fn rising_main(speeds: &[f64]) -> Draft {
         draft.section(head - along * pipe.loss(flow), flow, elevation - 10.0);
     }
     draft
+}
+
+/// A gravity main of 3,000 m and 0.6 m across from a reservoir at 80 m to a gate at 20 m, which
+/// discharges 0.35 m³/s into open air and is shut evenly in so many steps of 0.1 s. A wave is back after
+/// 6 s. The main falls evenly from 70 m, and water vaporises 10 m below it.
+fn gate(openings: u32) -> Draft {
+    let pipe = PipeFigures {
+        gravity: 9.81,
+        wave_speed: 1000.0,
+        diameter: 0.6,
+        friction_factor: 0.018,
+        step_time: 0.1,
+    };
+    let (reaches, flow, level, outlet) = (30_u16, 0.35, 80.0_f64, 20.0);
+    let head = level - f64::from(reaches) * pipe.loss(flow);
+    let mut draft = Draft { steps: 560, ..Draft::default() };
+    let reservoir = draft.node(DraftNode::reservoir(&[level]));
+    let a = flow / (head - outlet).sqrt();
+    let gate = draft.node(DraftNode::valve(a, outlet, &down_to_zero(openings)));
+    draft.pipe(reservoir, gate, reaches, pipe.s(), pipe.r());
+    for place in 0..=reaches {
+        let along = f64::from(place);
+        let elevation = 70.0 - 50.0 * along / f64::from(reaches);
+        draft.section(level - along * pipe.loss(flow), flow, elevation - 10.0);
+    }
+    draft.in_form(draft.fewest_pairs())
 }
 
 /// 800 m from a reservoir at 20 m to an outlet over a ditch at 18 m, which discharges 4 l/s at first. A
@@ -204,42 +293,6 @@ fn friction_too_large() -> Draft {
     draft.pipe(upper, lower, 8, 0.001, 100.0);
     for _ in 0..9 {
         draft.section(50.0, 0.1, -1e308);
-    }
-    draft
-}
-
-/// One pipe of 511 reaches from a reservoir to a valve that stays partly open, to be timed.
-pub fn one_long_pipe() -> Draft {
-    let openings: Vec<f64> = (1..=200).map(|step| 1.0 - f64::from(step) / 400.0).collect();
-    let mut draft = Draft { steps: 10_000, ..Draft::default() };
-    let upper = draft.node(DraftNode::reservoir(&[150.0]));
-    let lower = draft.node(DraftNode::valve(0.04, 0.0, &openings));
-    draft.pipe(upper, lower, 511, 0.0016, 0.0);
-    // Each reach has its own friction and each section its own floor.
-    draft.friction.iter_mut().zip(0..).for_each(|(r, at)| *r = 9e-5 + 1e-8 * f64::from(at));
-    for at in 0..512 {
-        draft.section(150.0 - f64::from(at) * 0.0128, 0.477, -10.0 - 0.001 * f64::from(at));
-    }
-    draft
-}
-
-/// 32 pipes of 15 reaches: eight rings of four pipes, each ring with a reservoir, a junction, a
-/// valve and a pump, to be timed.
-pub fn many_pipes() -> Draft {
-    let mut draft = Draft { steps: 10_000, ..Draft::default() };
-    for _ in 0..8 {
-        let reservoir = draft.node(DraftNode::reservoir(&[80.0]));
-        let junction = draft.node(DraftNode::junction(&[0.001, 0.002]));
-        let valve = draft.node(DraftNode::valve(0.01, 10.0, &[0.9, 0.8, 0.7]));
-        let pump = draft.node(DraftNode::pump(95.0, 2000.0, 2.0, &[0.8, 0.9, 1.0]));
-        for (start, finish) in
-            [(reservoir, junction), (junction, valve), (pump, valve), (reservoir, pump)]
-        {
-            draft.pipe(start, finish, 15, 0.001, 0.01);
-        }
-    }
-    for _ in 0..draft.section_count() {
-        draft.section(80.0, 0.0, -10.0);
     }
     draft
 }

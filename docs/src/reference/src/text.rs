@@ -15,6 +15,12 @@
 //! go pipe by pipe, and the schedules are in node order. `times` repeats a reach or a section. What
 //! follows `#` is a remark. Numbers written here read back to the same bits. A valve's b is the head
 //! of its outlet into open air: water goes out there, and none comes back.
+//!
+//! A job has five pairs, and where a schedule has more than 255 entries six with a table 6 of
+//! counts. A line `counts long` asks for that table all the same, `counts empty` for six pairs and
+//! an empty table 6.
+
+use crate::layout::Form;
 
 mod parse;
 mod write;
@@ -29,9 +35,14 @@ const KINDS_IN_WORDS: &str = "the kinds are junction, reservoir, \
     valve (an outlet into open air at head b; nothing comes back) and pump (with a non-return valve)";
 const FIGURES: [&str; 3] = ["a", "b", "c"];
 
+/// The word after `counts` for each form that has one.
+const FORMS: [(&str, Form); 2] = [("long", Form::FullTable6), ("empty", Form::EmptyTable6)];
+
 #[cfg(test)]
 mod tests {
     use super::*;
+    use crate::draft::Draft;
+    use crate::generate::{sound, Random};
     use crate::samples;
 
     #[test]
@@ -47,6 +58,16 @@ mod tests {
         for sample in samples::all() {
             let text = to_text(sample.about, &sample.draft);
             assert_eq!(from_text(&text).unwrap().bytes(), sample.draft.bytes());
+        }
+    }
+
+    #[test]
+    fn jobs_of_every_form_come_back_from_their_text() {
+        let mut random = Random::new(8);
+        for _ in 0..200 {
+            let draft = sound(&mut random);
+            let back = from_text(&to_text("", &draft)).unwrap();
+            assert!(back.form == draft.form && back.bytes() == draft.bytes(), "{draft:?}");
         }
     }
 
@@ -71,8 +92,73 @@ mod tests {
             ("reach R", "line 1: nothing follows `R`"),
             ("hose 1", "line 1: no line begins with `hose`"),
             ("steps 1\nnode junction", "there are 1 nodes but 0 schedules"),
+            ("counts", "line 1: nothing follows `counts`"),
+            ("counts short", "line 1: `short` is no way to count; it is `long` or `empty`"),
+            ("counts long 6", "line 1: `6` is one word too many"),
+            ("counts long\ncounts long", "line 2: line 1 has said how schedules are counted"),
         ] {
             assert_eq!(from_text(text), Err(words.to_string()));
         }
+    }
+
+    /// Job Q with so many entries in the valve's schedule.
+    fn job_q_of(entries: usize, form: Form) -> Draft {
+        let mut draft = samples::job_q().in_form(form);
+        draft.nodes[1].schedule = (0..entries).map(|at| at as f64 / entries as f64).collect();
+        draft
+    }
+
+    fn says_counts(text: &str) -> Option<&str> {
+        text.lines().find(|line| line.starts_with("counts"))
+    }
+
+    #[test]
+    fn the_form_is_kept_and_said_only_where_it_would_be_another() {
+        for (entries, form, line) in [
+            (1, Form::FivePairs, None),
+            (255, Form::FivePairs, None),
+            (1, Form::EmptyTable6, Some("counts empty")),
+            (255, Form::EmptyTable6, Some("counts empty")),
+            (1, Form::FullTable6, Some("counts long")),
+            (255, Form::FullTable6, Some("counts long")),
+            (256, Form::FullTable6, None),
+            (4000, Form::FullTable6, None),
+        ] {
+            let draft = job_q_of(entries, form);
+            let text = to_text("", &draft);
+            assert_eq!(says_counts(&text), line, "{entries} entries, {form:?}");
+            let back = from_text(&text).unwrap();
+            assert_eq!((back.form, back.bytes()), (form, draft.bytes()));
+            assert_eq!(Draft::read(&draft.bytes()).unwrap().bytes(), draft.bytes());
+        }
+    }
+
+    #[test]
+    fn the_long_form_may_be_said_where_it_is_needed() {
+        let draft = job_q_of(300, Form::FullTable6);
+        let text = to_text("", &draft);
+        for text in [format!("counts long\n{text}"), format!("{text}counts long\n")] {
+            assert_eq!(from_text(&text).unwrap(), draft);
+        }
+    }
+
+    #[test]
+    fn a_schedule_too_long_for_its_count_is_named_by_its_line() {
+        let text = format!("schedule 1\nschedule{}\n", " 0".repeat(256));
+        let words = "a schedule has at most 255 entries, not 256";
+        assert_eq!(
+            from_text(&format!("counts empty\n{text}")),
+            Err(format!("line 3: by line 1 {words}"))
+        );
+        assert_eq!(
+            from_text(&format!("{text}counts empty\n")),
+            Err(format!("line 2: by line 3 {words}"))
+        );
+        let words = "line 1: a schedule has at most 65535 entries, not 65536";
+        let text = format!("schedule{}\n", " 0".repeat(65_536));
+        assert_eq!(from_text(&text), Err(words.to_string()));
+        assert_eq!(from_text(&format!("{text}counts long\n")), Err(words.to_string()));
+        let nodes = from_text(&text.replace("schedule 0", "schedule"));
+        assert_eq!(nodes, Err("there are 0 nodes but 1 schedules".to_string()));
     }
 }

@@ -3,6 +3,7 @@
 use reference::baseline;
 use reference::draft::{Draft, DraftNode};
 use reference::generate::{cut_up, damaged, damaged_anywhere, odd, outlets, sound, Random};
+use reference::reader::QUESTIONS;
 use reference::refusal::Refused;
 use reference::rows::{RowStore, Rows, LONGEST, ROWS, SPARE};
 use reference::run::{self, start, Cause, Ran, Stop};
@@ -142,7 +143,7 @@ fn on_inner_sections_past_every_number() {
 fn on_damaged_jobs() {
     let mut random = Random::new(12);
     let mut rows = RowStore::zeros(LONGEST);
-    for question in 1..=15 {
+    for question in QUESTIONS {
         for _ in 0..50 {
             let job = damaged(&mut random, &[question]);
             assert_eq!(all_alike(&job, 0, 1, &mut rows), Err(Refused(question)));

@@ -44,9 +44,63 @@ fn the_sample_texts_are_those_of_the_program() {
 }
 
 #[test]
+fn the_stored_jobs_and_listings_are_those_of_the_program() {
+    let folder = Path::new(env!("CARGO_MANIFEST_DIR")).join("../../../jobs");
+    let mut names = Vec::new();
+    for (name, job) in samples::jobs() {
+        let path = folder.join(&name);
+        assert_eq!(fs::read(path.with_extension("job")).unwrap(), job, "{name}");
+        assert_eq!(fs::read(path.with_extension("listing")).unwrap(), listing_of(&job), "{name}");
+        names.extend([format!("{name}.job"), format!("{name}.listing")]);
+    }
+    // And there is no other.
+    for file in fs::read_dir(folder).unwrap() {
+        let name = file.unwrap().file_name().into_string().unwrap();
+        assert!(name == "README.md" || names.contains(&name), "{name}");
+    }
+}
+
+#[test]
+fn job_q_lists_the_same_in_each_form() {
+    let listing = listing_of(&bytes_of("job-q"));
+    for (sample, size) in [("job-q-six-pairs", 222), ("job-q-long-counts", 226)] {
+        let job = bytes_of(sample);
+        assert_eq!((job[0], job.len()), (6, size), "{sample}");
+        assert_eq!(listing_of(&job), listing, "{sample}");
+    }
+}
+
+#[test]
+fn a_seventh_table_is_refused() {
+    let jobs = samples::jobs();
+    let (_, job) = jobs.iter().find(|(name, _)| name == "seventh-pair").unwrap();
+    assert_eq!((job[0], listing_of(job)), (7, b"refused 2\n".to_vec()));
+}
+
+/// The highest head at a sample's last section, the gate.
+fn highest_at_the_gate(sample: &str) -> f64 {
+    let listing = String::from_utf8(listing_of(&bytes_of(sample))).unwrap();
+    let line = listing.lines().nth_back(1).unwrap();
+    f64::from_bits(u64::from_str_radix(line.split(' ').nth(3).unwrap(), 16).unwrap())
+}
+
+/// 80 m is the level of the reservoir.
+#[test]
+fn a_slow_gate_is_gentler_than_a_fast_one() {
+    let (slow, fast) = (highest_at_the_gate("slow-gate"), highest_at_the_gate("fast-gate"));
+    assert!((88.0..90.0).contains(&slow) && (145.0..150.0).contains(&fast), "{slow} {fast}");
+    // 500 openings: six pairs, where 100 are counted in a byte.
+    assert_eq!((bytes_of("slow-gate")[0], bytes_of("fast-gate")[0]), (6, 5));
+}
+
+#[test]
 fn samples_end_as_they_say() {
     for (sample, last) in [
         ("job-q", "done 1"),
+        ("job-q-six-pairs", "done 1"),
+        ("job-q-long-counts", "done 1"),
+        ("slow-gate", "done 560"),
+        ("fast-gate", "done 560"),
         ("rising-main", "done 600"),
         ("branches-and-loop", "done 400"),
         ("ditch-outlet", "done 30"),
@@ -61,7 +115,8 @@ fn samples_end_as_they_say() {
 
 #[test]
 fn bytes_go_to_text_and_back() {
-    for sample in ["job-q", "branches-and-loop", "lauria"] {
+    let forms = ["job-q-six-pairs", "job-q-long-counts", "slow-gate"];
+    for sample in ["job-q", "branches-and-loop", "lauria"].into_iter().chain(forms) {
         let job = bytes_of(sample);
         let text = run(env!("CARGO_BIN_EXE_job-to-text"), &[], &job).stdout;
         assert_eq!(run(env!("CARGO_BIN_EXE_job-from-text"), &[], &text).stdout, job);

@@ -52,7 +52,7 @@ node-read c =
     let v = valueIn (start table .args .t2) node in
     c .node-with .ensures
     ∙ ap (λ (nodes : List ℕ). withValue (kindIn nodes node) v) (table .nodes .ensures)
-    ∙ sym (ap (λ (z : ScheduledNode). withValue (z .kind) v) (node-is _ _ node (here (c .before))))
+    ∙ sym (ap (λ (z : ScheduledNode). withValue (z .kind) v) (node-is _ _ _ node (here (c .before))))
 
 loop-again : tie.Need-loop-again Inv-loop μ-loop
 loop-again c =

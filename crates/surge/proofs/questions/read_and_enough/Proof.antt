@@ -5,8 +5,8 @@ use borrow.Author.Tests.{eq-eqb, ne-eqb}
 use Rattle.job.specs.Job.{sections}
 use Rattle.job.specs.Format.{jobOf, listingSteps}
 use Rattle.job.specs.Questions.{refusal, Accepted}
-use Rattle.job.specs.Answer.{paperRead, accepted}
-use Rattle.job.proofs.AnswerLaws.{refused-is, accepted-is}
+use Rattle.reader.specs.Answer.{paperRead, accepted}
+use Rattle.reader.proofs.AnswerLaws.{refused-is, accepted-is}
 use Rattle.loops.proofs.Tests.{is-yes, is-no}
 use Rattle.surge.specs.Opening.{firstAsked}
 use Rattle.surge.proofs.questions.read_and_enough.Statement.{statement}

@@ -6,9 +6,9 @@ use borrow.Author.Needs.{needs}
 use Rattle.job.specs.Job.{sections}
 use Rattle.job.specs.Format.{listingSteps, jobOf}
 use Rattle.job.specs.Questions.{Accepted}
-use Rattle.job.specs.Answer.{paperRead}
+use Rattle.reader.specs.Answer.{paperRead}
 use Rattle.job.proofs.Accepted.{section-limit}
-use Rattle.job.proofs.AnswerLaws.{refused-is, accepted-is}
+use Rattle.reader.proofs.AnswerLaws.{refused-is, accepted-is}
 use Rattle.surge.specs.Answers.{paperAnswer}
 use Rattle.surgelist.proofs.ListingLaws.{rowsLeft, front-is, front-text, refused-listing}
 use Rattle.surgelist.proofs.listing_of.write_listing_of.Statement.{statement}

@@ -9,10 +9,11 @@ use reference::baseline::{in_place, own_rows};
 use reference::draft::Draft;
 use reference::rows::{Lengths, RowStore, LONGEST, SPARE};
 use reference::run;
-use reference::samples::{many_pipes, one_long_pipe};
+use reference::samples::timed::{
+    many_pipes, one_long_pipe, short_main, with_longest_schedules, with_one_entry,
+};
 use std::time::Instant;
 
-const SECTIONS: usize = 512;
 /// The rows have some entries more than are in use: 512 f64 are 4,096 bytes, and rows that far apart
 /// would share places in the cache.
 const LONGER: usize = LONGEST[0] + 48;
@@ -32,18 +33,34 @@ enum Which {
 /// In the order in which they take turns.
 const ALL: [Which; 4] = [Which::Ours, Which::InPlace, Which::ByBounds, Which::OwnRows];
 
+/// What the calls of a plan do.
+#[derive(Clone, Copy)]
+enum Calls {
+    /// So many calls of so many steps, each from where the last ended.
+    OneAfterAnother(u64, u64),
+    /// The same, but each from the first scheduled value again.
+    FromTheFirst(u64, u64),
+}
+
 struct Plan {
     name: &'static str,
     job: Vec<u8>,
-    calls: u64,
-    count: u64,
+    sections: usize,
+    calls: Calls,
     rounds: usize,
 }
 
 impl Plan {
-    fn new(name: &'static str, draft: &Draft, calls: u64, count: u64, rounds: usize) -> Plan {
-        assert_eq!(draft.section_count(), SECTIONS);
-        Plan { name, job: draft.bytes(), calls, count, rounds }
+    fn new(name: &'static str, draft: &Draft, calls: Calls, rounds: usize) -> Plan {
+        Plan { name, job: draft.bytes(), sections: draft.section_count(), calls, rounds }
+    }
+
+    /// How many calls, how many steps each, and how many steps done each next one begins after.
+    fn calls(&self) -> (u64, u64, u64) {
+        match self.calls {
+            Calls::OneAfterAnother(calls, count) => (calls, count, count),
+            Calls::FromTheFirst(calls, count) => (calls, count, 0),
+        }
     }
 
     /// The start, then the calls; the rows are those handed in, for all alike.
@@ -51,8 +68,9 @@ impl Plan {
         run::start(&self.job, rows.lend()).expect("the job is accepted");
         let mut answer = Answer { number: 0, section: 0, steps: 0 };
         let before = Instant::now();
-        for call in 0..self.calls {
-            let (job, done, count) = (&self.job, call * self.count, self.count);
+        let (calls, count, more) = self.calls();
+        for call in 0..calls {
+            let (job, done) = (&self.job, call * more);
             answer = match which {
                 Which::Ours => ours::run_on(job, done, count, rows, LENGTHS),
                 Which::InPlace => ran(in_place::run_on(job, done, count, rows.lend())),
@@ -67,10 +85,11 @@ impl Plan {
     fn compare(&self) -> RowStore {
         let mut rows = RowStore::marked(LENGTHS);
         let (answer, _) = self.run(Which::Ours, &mut rows);
+        let (calls, count, more) = self.calls();
         for which in &ALL[1..] {
             let mut other = RowStore::marked(LENGTHS);
             let (expected, _) = self.run(*which, &mut other);
-            if answer != expected || answer.steps != self.calls * self.count {
+            if answer != expected || answer.steps != (calls - 1) * more + count {
                 differ(self.name, &self.job, &format!("{answer:?}, {expected:?}"));
             }
             same_rows(self.name, &self.job, &rows, &other);
@@ -84,7 +103,8 @@ impl Plan {
         for _ in 0..self.rounds {
             rounds.push(ALL.map(|which| self.run(which, &mut rows).1));
         }
-        let cells = (self.calls * self.count) as f64 * SECTIONS as f64;
+        let (calls, count, _) = self.calls();
+        let cells = (calls * count) as f64 * self.sections as f64;
         let times: [Vec<f64>; 4] =
             std::array::from_fn(|which| rounds.iter().map(|round| round[which] / cells).collect());
         let least = times.each_ref().map(|times| least(times));
@@ -115,17 +135,53 @@ fn median(mut values: Vec<f64>) -> f64 {
     values[values.len() / 2]
 }
 
-fn main() {
-    let (long, many) = (one_long_pipe(), many_pipes());
-    let plans = [
-        Plan::new("one pipe of 511 reaches, 10,000 steps", &long, 1, 10_000, 41),
-        Plan::new("32 pipes of 15 reaches, 10,000 steps", &many, 1, 10_000, 41),
-        Plan::new("one pipe of 511 reaches, 1,000 calls of one step", &long, 1000, 1, 101),
-        Plan::new("32 pipes of 15 reaches, 1,000 calls of one step", &many, 1000, 1, 101),
+/// The plans; those of long schedules beside the same pipes with schedules of one entry.
+fn plans() -> Vec<Plan> {
+    use Calls::{FromTheFirst, OneAfterAnother};
+    let (long, many) = (one_long_pipe(), many_pipes(15));
+    let (one, calls) = (OneAfterAnother(1, 10_000), OneAfterAnother(1000, 1));
+    let mut plans = vec![
+        Plan::new("one pipe of 511 reaches, 10,000 steps", &long, one, 41),
+        Plan::new("32 pipes of 15 reaches, 10,000 steps", &many, one, 41),
+        Plan::new("one pipe of 511 reaches, 1,000 calls of one step", &long, calls, 101),
+        Plan::new("32 pipes of 15 reaches, 1,000 calls of one step", &many, calls, 101),
     ];
-    // A number from 1 to 4 asks for one of them.
+    let (rings, main) = (many_pipes(1), short_main(1));
+    let (short, short_valve) = (with_one_entry(&rings), with_one_entry(&main));
+    // The long schedules repeat that entry, so that both take the same roots and differ in the reading alone.
+    let (all, valve) = (with_longest_schedules(&short, 0), with_longest_schedules(&short_valve, 1));
+    // Every entry of the long schedules is read, 115 or 116 a node, or 4,072.
+    let (again, main_steps) = (FromTheFirst(80, 116), OneAfterAnother(1, 4072));
+    plans.extend([
+        Plan::new("32 pipes of one reach, 32 nodes of long schedules, 10,000 steps", &all, one, 41),
+        Plan::new("32 pipes of one reach, 32 nodes of one entry, 10,000 steps", &short, one, 41),
+        Plan::new(
+            "the same, long schedules, 80 calls of 116 steps from the first",
+            &all,
+            again,
+            41,
+        ),
+        Plan::new("the same, one entry, 80 calls of 116 steps from the first", &short, again, 41),
+        Plan::new(
+            "one pipe of one reach, a valve of 4,072 openings, 4,072 steps",
+            &valve,
+            main_steps,
+            101,
+        ),
+        Plan::new(
+            "one pipe of one reach, a valve of one opening, 4,072 steps",
+            &short_valve,
+            main_steps,
+            101,
+        ),
+    ]);
+    plans
+}
+
+fn main() {
+    // A number, counted from 1, asks for one of them.
     let only = std::env::args().nth(1).and_then(|number| number.parse::<usize>().ok());
-    for (place, plan) in plans.iter().enumerate() {
+    for (place, plan) in plans().iter().enumerate() {
         if only.is_none_or(|number| number == place + 1) {
             plan.measure();
         }

@@ -5,7 +5,8 @@ use compare::both::differ;
 use compare::tally::Tally;
 use reference::generate::{damaged, damaged_anywhere, odd, sound, Random};
 use reference::listing::listing;
-use reference::samples;
+use reference::reader::QUESTIONS;
+use reference::samples::{self, timed::longest_jobs};
 use std::io::Write;
 use std::process::{Command, Stdio};
 
@@ -26,13 +27,12 @@ fn main() {
 fn jobs() -> Vec<(&'static str, Vec<u8>)> {
     let mut random = Random::new(109);
     let mut jobs = Vec::new();
-    for sample in samples::all() {
-        jobs.push(("samples", sample.draft.bytes()));
-    }
+    jobs.extend(samples::jobs().into_iter().map(|(_, job)| ("samples", job)));
+    jobs.extend(longest_jobs().map(|draft| ("longest jobs", draft.bytes())));
     for size in [0, 1, 45, 46, 32_768, 32_769, 40_000, 200_000] {
         jobs.push(("inputs of zeros", vec![0; size]));
     }
-    for question in 1..=15 {
+    for question in QUESTIONS {
         for _ in 0..6 {
             jobs.push(("damaged jobs", damaged(&mut random, &[question])));
         }

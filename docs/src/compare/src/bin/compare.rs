@@ -17,6 +17,7 @@ fn main() {
     parts::calls(&mut tally);
     parts::lists(&mut tally);
     parts::edits(&mut tally);
+    parts::forms(&mut tally);
     parts::roots(&mut tally);
     parts::lines(&mut tally);
     parts::listings(&mut tally);

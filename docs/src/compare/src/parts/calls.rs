@@ -137,7 +137,8 @@ fn any_numbers(tally: &mut Tally, random: &mut Random, draft: &Draft, lent: &Len
             }
         }
         rows.fill_spare(random, draft.needed());
-        let (done, count) = (random.below(300) as u64, random.below(10) as u64);
+        let longest = draft.longest_schedule();
+        let (done, count) = (random.below(longest.max(300)) as u64, random.below(10) as u64);
         let number = both::run_on(tally, &job, done, count, &mut rows).number;
         assert_ne!(number, 22, "any numbers not below the floors are let through");
         tally.count("run-ons from rows that no call left", 1);

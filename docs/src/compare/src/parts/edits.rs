@@ -6,25 +6,65 @@ use crate::ours::{self, Answer};
 use crate::tally::Tally;
 use reference::draft::{Draft, DraftNode};
 use reference::generate::{odd, sound, Random};
+use reference::layout::Form;
 use reference::rows::Lengths;
 
-/// Must be reached.
-pub const SHARP: &str = "sections at k + d steps that differ: the bound is sharp";
+const SHARP: &str = "sections at k + d steps that differ: the bound is sharp";
+const SHARP_FORMS: &str = "the same of a job of five pairs beside one with a full table 6";
+const SHARP_LATE: &str = "the same where k is past 255";
+const LATE: &str = "pairs of jobs edited after entry 255 and compared past step k";
+
+/// Pairs by the places of their forms in `Form::ALL`, the lesser first.
+const FORMS: [[&str; 3]; 3] = [
+    [
+        "pairs of edited jobs: five pairs both",
+        "pairs of edited jobs: five pairs, table 6 empty",
+        "pairs of edited jobs: five pairs, table 6 full",
+    ],
+    ["", "pairs of edited jobs: table 6 empty both", "pairs of edited jobs: table 6 empty, full"],
+    ["", "", "pairs of edited jobs: table 6 full both"],
+];
+
+/// What must be reached, and how often at least.
+pub fn all() -> Vec<(&'static str, u64)> {
+    let pairs = FORMS.concat().into_iter().filter(|case| !case.is_empty());
+    let mut counts: Vec<_> = pairs.map(|case| (case, 100)).collect();
+    counts.extend([(SHARP, 1), (SHARP_FORMS, 100), (LATE, 100), (SHARP_LATE, 100)]);
+    counts
+}
 
 pub fn edits(tally: &mut Tally) {
     let mut random = Random::new(105);
     for place in 0..6000 {
         let draft = if place % 5 == 0 { odd(&mut random) } else { sound(&mut random) };
-        let node = random.below(draft.nodes.len());
+        let node = edited_node(&mut random, &draft);
         let mut edited = draft.clone();
         edit_schedule(&mut random, &mut edited.nodes[node]);
         let Some(k) = first_unlike(&draft.nodes[node], &edited.nodes[node]) else {
             continue;
         };
+        let (draft, edited) = (in_any_form(&mut random, &draft), in_any_form(&mut random, &edited));
         let pair = Pair::new(&draft, &edited, node as u8, k);
         pair.compare(tally, &mut random);
         tally.count("pairs of jobs edited at one node", 1);
     }
+}
+
+/// Any node; more often one whose schedule has more than 255 entries.
+fn edited_node(random: &mut Random, draft: &Draft) -> usize {
+    let long = draft.nodes.iter().position(|node| node.schedule.len() > 255);
+    match long {
+        Some(node) if !random.once_in(4) => node,
+        _ => random.below(draft.nodes.len()),
+    }
+}
+
+/// The same job in any of the forms that can count its schedules.
+fn in_any_form(random: &mut Random, draft: &Draft) -> Draft {
+    let longest = draft.longest_schedule();
+    let forms: Vec<_> =
+        Form::ALL.into_iter().filter(|form| longest <= form.most_entries()).collect();
+    draft.in_form(random.pick(&forms))
 }
 
 /// Another value in one entry, more entries, or fewer.
@@ -35,7 +75,7 @@ fn edit_schedule(random: &mut Random, node: &mut DraftNode) {
         _ => random.pick(&[0.0, -0.0, 0.5, -1.0, 3.0, 42.0]),
     };
     match random.below(4) {
-        0 if node.schedule.len() < 250 => {
+        0 => {
             let more = value(random);
             node.schedule.push(more);
         }
@@ -54,6 +94,7 @@ fn first_unlike(a: &DraftNode, b: &DraftNode) -> Option<u64> {
 
 struct Pair {
     jobs: [Vec<u8>; 2],
+    forms: [usize; 2],
     needed: Lengths,
     far: Vec<Option<u64>>,
     k: u64,
@@ -61,8 +102,11 @@ struct Pair {
 
 impl Pair {
     fn new(draft: &Draft, edited: &Draft, node: u8, k: u64) -> Pair {
+        let mut forms = [draft.form, edited.form].map(|form| form.place());
+        forms.sort();
         Pair {
             jobs: [draft.bytes(), edited.bytes()],
+            forms,
             needed: draft.needed(),
             far: distance::from_node(draft, node),
             k,
@@ -79,10 +123,14 @@ impl Pair {
                 return;
             }
         }
+        tally.count(FORMS[self.forms[0]][self.forms[1]], 1);
         let mut done = [0; 2];
-        for _ in 0..self.k + 24 {
-            // Mostly single steps, so that each m is seen.
-            let count = if random.once_in(5) { random.below(4) as u64 } else { 1 };
+        // Where k is late, one call for most of the steps before it.
+        let mut before_k = self.k.saturating_sub(20);
+        for _ in 0..self.k.min(20) + 24 {
+            // Else mostly single steps, so that each m is seen.
+            let single = if random.once_in(5) { random.below(4) as u64 } else { 1 };
+            let count = if before_k > 0 { std::mem::take(&mut before_k) } else { single };
             let mut answers = [Answer { number: 0, section: 0, steps: 0 }; 2];
             for which in 0..2 {
                 let lent = &mut runs[which];
@@ -100,6 +148,9 @@ impl Pair {
             if answers.iter().any(|answer| answer.number != 0) {
                 return;
             }
+        }
+        if self.k > 255 {
+            tally.count(LATE, 1);
         }
     }
 
@@ -129,9 +180,20 @@ impl Pair {
             } else if *far == m.checked_sub(self.k) {
                 tally.count("sections at k + d steps", 1);
                 if !alike {
-                    tally.count(SHARP, 1);
+                    self.sharp(tally);
                 }
             }
+        }
+    }
+
+    /// A section differs as soon as it may.
+    fn sharp(&self, tally: &mut Tally) {
+        tally.count(SHARP, 1);
+        if self.forms == [0, 2] {
+            tally.count(SHARP_FORMS, 1);
+        }
+        if self.k > 255 {
+            tally.count(SHARP_LATE, 1);
         }
     }
 }

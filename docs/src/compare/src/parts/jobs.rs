@@ -2,8 +2,10 @@
 
 use crate::both::{self, Lent};
 use crate::tally::Tally;
+use crate::ways;
 use reference::draft::Draft;
 use reference::generate::{cut_up, damaged, damaged_anywhere, odd, outlets, sound, Random};
+use reference::reader::QUESTIONS;
 use reference::rows::LONGEST;
 
 /// Read, started and run on in several calls, into rows of NaNs with some entries past those in
@@ -43,8 +45,8 @@ fn run(tally: &mut Tally, random: &mut Random, draft: &Draft) {
 /// the NaNs in the rows as they are.
 pub fn damaged_jobs(tally: &mut Tally) {
     let mut random = Random::new(102);
-    for question in 1..=15 {
-        for _ in 0..150 {
+    for (place, question) in QUESTIONS.into_iter().enumerate() {
+        for _ in 0..600 {
             let job = damaged(&mut random, &[question]);
             let number = refused_everywhere(tally, &job);
             assert_eq!(
@@ -54,12 +56,17 @@ pub fn damaged_jobs(tally: &mut Tally) {
             );
             tally.count("jobs damaged for one question", 1);
         }
-        for other in question + 1..=15 {
-            for _ in 0..5 {
+        for &other in &QUESTIONS[place + 1..] {
+            for _ in 0..20 {
                 let job = damaged(&mut random, &[question, other]);
                 let number = refused_everywhere(tally, &job);
-                assert_eq!(number, u64::from(question), "the least question decides");
+                assert_eq!(number, u64::from(question), "the question asked first decides");
                 tally.count("jobs damaged for two questions", 1);
+                match (question, other) {
+                    (10, 50) => tally.count(ways::TEN_AND_FIFTY, 1),
+                    (50, 11) => tally.count(ways::FIFTY_AND_ELEVEN, 1),
+                    _ => {}
+                }
             }
         }
     }

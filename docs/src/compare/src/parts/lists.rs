@@ -14,7 +14,8 @@ pub fn lists(tally: &mut Tally) {
     let mut random = Random::new(104);
     for place in 0..3000 {
         let mut draft = if place % 3 == 0 { odd(&mut random) } else { sound(&mut random) };
-        draft.steps = random.from_to(1, 90) as u32;
+        // Some of those with long schedules go past step 255.
+        draft.steps = draft.steps.max(random.from_to(1, 90) as u32);
         list(tally, &mut random, &draft);
         tally.count("lists of run-ons against one long run", 1);
     }

@@ -3,7 +3,8 @@
 
 use crate::fields::{f64_at, u16_at, u32_at};
 use crate::job::Kind;
-use crate::reader::{FIRST_TABLE, MOST_BYTES, MOST_SECTIONS, MOST_STEPS};
+use crate::layout::{pairs_admitted, tables, tables_adjoin};
+use crate::reader::{FEWEST_BYTES, MOST_BYTES, MOST_SECTIONS, MOST_STEPS};
 use crate::rows::{needed, Lengths};
 use std::ops::RangeInclusive;
 
@@ -69,11 +70,12 @@ impl<'a> Plan<'a> {
     }
 
     /// Reads a job into an empty plan, which is too large to be handed about. True where it passes
-    /// questions 1 to 12 and 15 and has tables 3 and 4 of the right lengths.
+    /// questions 1 to 12, 50 and 15 and has tables 3 and 4 of the right lengths.
     pub fn read(&mut self, bytes: &'a [u8]) -> bool {
-        let Some([pipes, nodes, friction, sections, schedules]) = tables(bytes) else {
+        if !laid_out(bytes) {
             return false;
-        };
+        }
+        let [pipes, nodes, friction, sections, schedules, entry_counts] = tables(bytes);
         let counts = (records(pipes, 12, 1), records(nodes, 26, 2));
         let (Some(pipe_count), Some(node_count)) = counts else {
             return false;
@@ -83,7 +85,7 @@ impl<'a> Plan<'a> {
         self.initial = sections.as_chunks().0;
         self.schedules = schedules.as_chunks().0;
         self.read_pipes(pipes)
-            && self.read_nodes(nodes)
+            && self.read_nodes(nodes, entry_counts)
             && friction.len() == 8 * (self.sections - pipe_count)
             && sections.len() == 24 * self.sections
             && self.schedules_sound(schedules.len())
@@ -147,10 +149,20 @@ impl<'a> Plan<'a> {
         self.sections <= MOST_SECTIONS && self.nodes().iter().all(|node| node.t > 0.0)
     }
 
-    /// Questions 10 and 11.
-    fn read_nodes(&mut self, table: &[u8]) -> bool {
-        let mut first_entry = 0;
-        for (record, node) in table.as_chunks::<26>().0.iter().zip(&mut self.nodes) {
+    /// Questions 10, 50 and 11.
+    fn read_nodes(&mut self, table: &[u8], entry_counts: &[u8]) -> bool {
+        let (mut first_entry, in_records) = (0, entry_counts.is_empty());
+        if !in_records && entry_counts.len() != 2 * self.node_count {
+            return false;
+        }
+        let records = table.as_chunks::<26>().0.iter();
+        for (number, (record, node)) in records.zip(&mut self.nodes).enumerate() {
+            let byte = usize::from(record[1]);
+            let (entries, replaced) = if in_records {
+                (byte, 0)
+            } else {
+                (u16_at(entry_counts, 2 * number).into(), byte)
+            };
             let [a, b, c] = [2, 10, 18].map(|at| f64_at(record, at));
             let zero = |x: f64| x.to_bits() == 0;
             let (kind, named) = match record[0] {
@@ -160,10 +172,10 @@ impl<'a> Plan<'a> {
                 3 => (Kind::Pump { a, b, c }, a >= 0.0 && b >= 0.0),
                 _ => return false,
             };
-            if !(named && a.is_finite() && b.is_finite() && c.is_finite() && record[1] > 0) {
+            let counted = entries > 0 && replaced == 0;
+            if !(counted && named && a.is_finite() && b.is_finite() && c.is_finite()) {
                 return false;
             }
-            let entries = usize::from(record[1]);
             *node = NodePlan { kind, t: node.t, first_entry, entries };
             first_entry += entries;
         }
@@ -187,24 +199,12 @@ impl<'a> Plan<'a> {
     }
 }
 
-/// Questions 1 to 4, with the five tables.
-fn tables(bytes: &[u8]) -> Option<[&[u8]; 5]> {
-    if !(FIRST_TABLE..=MOST_BYTES).contains(&bytes.len()) || u16_at(bytes, 0) != 5 {
-        return None;
-    }
-    let mut tables = [&bytes[..0]; 5];
-    let mut end = FIRST_TABLE;
-    for (number, table) in tables.iter_mut().enumerate() {
-        let at = 6 + 8 * number;
-        let (offset, length) = (u32_at(bytes, at) as usize, u32_at(bytes, at + 4) as usize);
-        if offset != end {
-            return None;
-        }
-        *table = bytes.get(offset..offset + length)?;
-        end += length;
-    }
-    let steps_admitted = u64::from(u32_at(bytes, 2)) <= MOST_STEPS;
-    (end == bytes.len() && steps_admitted).then_some(tables)
+/// Questions 1 to 4.
+fn laid_out(bytes: &[u8]) -> bool {
+    (FEWEST_BYTES..=MOST_BYTES).contains(&bytes.len())
+        && pairs_admitted(bytes)
+        && tables_adjoin(bytes)
+        && u64::from(u32_at(bytes, 2)) <= MOST_STEPS
 }
 
 /// Questions 5 and 6: how many whole records, at least so many and at most 32.

@@ -5,7 +5,7 @@
 use reference::baseline;
 use reference::rows::{RowStore, Rows, LONGEST};
 use reference::run::{self, start, Ran};
-use reference::samples::{many_pipes, one_long_pipe};
+use reference::samples::timed::{many_pipes, one_long_pipe};
 use std::time::Instant;
 
 const ROUNDS: usize = 25;
@@ -52,7 +52,7 @@ fn main() {
     println!("job, steps a call: ns a section and step, least and median: in place, in place by bounds, with own rows, plain");
     for (name, job) in [
         ("one pipe of 511 reaches", one_long_pipe().bytes()),
-        ("32 pipes of 15 reaches", many_pipes().bytes()),
+        ("32 pipes of 15 reaches", many_pipes(15).bytes()),
     ] {
         for (calls, count) in [(1, 10_000), (1000, 1)] {
             let [in_place, by_bounds, own_rows, plain] =

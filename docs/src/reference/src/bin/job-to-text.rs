@@ -2,7 +2,6 @@
 //! says why.
 
 use reference::draft::Draft;
-use reference::reader::read;
 use reference::text::to_text;
 use std::io::{self, Read};
 use std::process::ExitCode;
@@ -10,9 +9,9 @@ use std::process::ExitCode;
 fn main() -> io::Result<ExitCode> {
     let mut bytes = Vec::new();
     io::stdin().lock().read_to_end(&mut bytes)?;
-    Ok(match read(&bytes) {
-        Ok(job) => {
-            print!("{}", to_text("", &Draft::from(&job)));
+    Ok(match Draft::read(&bytes) {
+        Ok(draft) => {
+            print!("{}", to_text("", &draft));
             ExitCode::SUCCESS
         }
         Err(refused) => {

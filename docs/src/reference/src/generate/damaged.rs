@@ -3,50 +3,52 @@
 use super::sound::sound_with;
 use super::{odd, sound, Random};
 use crate::draft::Draft;
-use crate::reader::MOST_BYTES;
+use crate::layout::{pair_at, Form};
+use crate::reader::{MOST_BYTES, QUESTIONS};
 
+mod pairs;
 mod tables;
 
-/// The steps and the five tables of a job, before the pairs are written.
+/// The steps and the tables of a job, before the pairs are written.
 pub(super) struct Parts {
     pub steps: u32,
-    pub tables: [Vec<u8>; 5],
+    pub tables: Vec<Vec<u8>>,
 }
 
-/// Where the pair of a table stands, counted from 0: the offset, the length four bytes after it.
-fn pair_at(table: usize) -> usize {
-    6 + 8 * table
+/// Where a question stands in the order in which they are asked.
+fn place(question: u8) -> usize {
+    QUESTIONS.iter().position(|&asked| asked == question).expect("a question to a job")
 }
 
-/// A job that would be sound but that each question named, of 1 to 15, is answered with no; so the
-/// least of them decides.
+/// A job that would be sound but that each question named is answered with no; so the one that is
+/// asked first decides.
 pub fn damaged(random: &mut Random, questions: &[u8]) -> Vec<u8> {
-    let draft = sound_with(random, 20, 28_000);
+    let mut draft = sound_with(random, 20, 28_000);
+    if questions.contains(&50) && draft.form == Form::FivePairs {
+        draft.form = random.pick(&[Form::EmptyTable6, Form::FullTable6]);
+    }
     let mut parts = Parts { steps: draft.steps, tables: draft.tables() };
-    let mut falling = questions.to_vec();
-    falling.sort_by(|a, b| b.cmp(a));
-    for &question in falling.iter().filter(|&&question| question > 4) {
+    let mut from_last = questions.to_vec();
+    from_last.sort_by_key(|&question| usize::MAX - place(question));
+    for &question in from_last.iter().filter(|&&question| question > 4) {
         tables::damage(random, &mut parts, question);
     }
-    if falling.contains(&4) {
+    if from_last.contains(&4) {
         parts.steps = random.pick(&[1_000_001, 16_777_217, u32::MAX]);
     }
     let mut bytes = Draft::bytes_of(parts.steps, &parts.tables);
-    for &question in falling.iter().filter(|&&question| question < 4) {
+    for &question in from_last.iter().filter(|&&question| question < 4) {
         match question {
-            3 => part_tables(random, &mut bytes),
-            2 => {
-                let count = random.pick(&[0_u16, 4, 6, 5 << 8, u16::MAX]);
-                bytes[..2].copy_from_slice(&count.to_le_bytes());
-            }
-            _ => change_size(random, &mut bytes),
+            3 => pairs::part_tables(random, &mut bytes),
+            2 => pairs::change_count(random, &mut bytes),
+            _ => change_size(random, &mut bytes, parts.tables.len()),
         }
     }
     bytes
 }
 
-/// Question 1: too few bytes, or so many that only their number is wrong.
-fn change_size(random: &mut Random, bytes: &mut Vec<u8>) {
+/// Question 1: too few bytes, or too many, the last table longer by them.
+fn change_size(random: &mut Random, bytes: &mut Vec<u8>, pairs: usize) {
     if random.once_in(2) {
         let few = random.pick(&[0, 1, 45, 20]);
         return bytes.truncate(few);
@@ -54,45 +56,13 @@ fn change_size(random: &mut Random, bytes: &mut Vec<u8>) {
     let size = MOST_BYTES + random.from_to(1, 40);
     let more = size.saturating_sub(bytes.len());
     bytes.resize(size, 0);
-    add_to_u32(bytes, pair_at(4) + 4, more as u32);
+    add_to_u32(bytes, pair_at(pairs - 1) + 4, more as u32);
 }
 
 fn add_to_u32(bytes: &mut [u8], at: usize, more: u32) {
     let field: &mut [u8] = &mut bytes[at..at + 4];
     let old = u32::from_le_bytes([field[0], field[1], field[2], field[3]]);
     field.copy_from_slice(&old.wrapping_add(more).to_le_bytes());
-}
-
-/// Question 3: tables that overlap, leave a gap, end before or after the file, or lengths whose
-/// sums come out right only if they wrap at 2^32.
-fn part_tables(random: &mut Random, bytes: &mut Vec<u8>) {
-    let table = random.below(5);
-    match random.below(5) {
-        0 => add_to_u32(bytes, pair_at(table), random.pick(&[1, 8, u32::MAX, 1 << 31])),
-        1 => add_to_u32(bytes, pair_at(table) + 4, random.pick(&[1, 8, u32::MAX, 1 << 31])),
-        2 => bytes.push(0),
-        3 => {
-            bytes.truncate(bytes.len() - 1);
-        }
-        _ => wrap_tables(random, bytes),
-    }
-}
-
-/// Offsets and lengths, each next offset the wrapped sum of the last, the last sum the file's size.
-fn wrap_tables(random: &mut Random, bytes: &mut [u8]) {
-    let size = bytes.len() as u32;
-    let mut offset = 46_u32;
-    for table in 0..5 {
-        let length = match table {
-            0 => u32::MAX - random.below(40) as u32,
-            4 => size.wrapping_sub(offset),
-            _ => random.pick(&[0, 12, 26, u32::MAX, 1 << 31]),
-        };
-        let at = pair_at(table);
-        bytes[at..at + 4].copy_from_slice(&offset.to_le_bytes());
-        bytes[at + 4..at + 8].copy_from_slice(&length.to_le_bytes());
-        offset = offset.wrapping_add(length);
-    }
 }
 
 /// A job damaged by a few edits anywhere; which question refuses it, if one does, is not foreseen.
@@ -140,7 +110,7 @@ mod tests {
     #[test]
     fn each_question_refuses_the_jobs_damaged_for_it() {
         let mut random = Random::new(1);
-        for question in 1..=15 {
+        for question in QUESTIONS {
             for _ in 0..200 {
                 let bytes = damaged(&mut random, &[question]);
                 assert_eq!(read(&bytes), Err(Refused(question)));
@@ -151,8 +121,8 @@ mod tests {
     #[test]
     fn the_first_no_decides() {
         let mut random = Random::new(2);
-        for first in 1..15 {
-            for later in first + 1..=15 {
+        for first in QUESTIONS {
+            for &later in &QUESTIONS[place(first) + 1..] {
                 for _ in 0..20 {
                     let bytes = damaged(&mut random, &[later, first]);
                     assert_eq!(read(&bytes), Err(Refused(first)), "{first} before {later}");

@@ -3,6 +3,7 @@
 use super::network::{network, Network};
 use super::Random;
 use crate::draft::{Draft, DraftNode};
+use crate::layout::Form;
 use crate::reader::{MOST_BYTES, MOST_PIPES};
 
 /// A sound job.
@@ -14,13 +15,18 @@ pub fn sound(random: &mut Random) -> Draft {
 pub fn sound_with(random: &mut Random, most_pipes: usize, most_bytes: usize) -> Draft {
     let network = network(random, most_pipes);
     let figures = if random.once_in(3) { Figures::Small } else { Figures::Engineer };
-    let mut draft = Draft { steps: random.from_to(0, 60) as u32, ..Draft::default() };
+    let form = random.pick(&Form::ALL);
+    let mut draft = Draft { form, steps: random.from_to(0, 60) as u32, ..Draft::default() };
     for _ in 0..network.nodes {
-        draft.node(node(random, figures));
+        draft.node(node(random, figures, form));
     }
     add_pipes(random, figures, &network, &mut draft);
     add_sections(random, figures, &mut draft);
     shorten_schedules(&mut draft, most_bytes);
+    let longest = draft.longest_schedule();
+    if longest > Form::FivePairs.most_entries() && random.once_in(4) {
+        draft.steps = random.from_to(250, longest + 10) as u32;
+    }
     draft
 }
 
@@ -40,39 +46,40 @@ fn number(random: &mut Random, figures: Figures, least: f64, most: f64) -> f64 {
     }
 }
 
-/// How many entries a schedule has: mostly one or a few, at times as many as a byte counts.
-fn entry_count(random: &mut Random) -> usize {
+/// How many entries a schedule has: mostly one or a few, at times as many as a byte counts, and more
+/// where the form counts more.
+fn entry_count(random: &mut Random, form: Form) -> usize {
     match random.below(8) {
         0..=2 => 1,
         3..=6 => random.from_to(2, 9),
+        _ if form == Form::FullTable6 && random.once_in(2) => random.from_to(256, 1200),
         _ => random.from_to(10, 255),
     }
 }
 
-fn schedule(random: &mut Random, figures: Figures, least: f64, most: f64) -> Vec<f64> {
-    let count = entry_count(random);
-    (0..count).map(|_| number(random, figures, least, most)).collect()
-}
-
-fn node(random: &mut Random, figures: Figures) -> DraftNode {
+fn node(random: &mut Random, figures: Figures, form: Form) -> DraftNode {
     let kind = random.below(4);
+    let count = entry_count(random, form);
+    let schedule = |random: &mut Random, least: f64, most: f64| -> Vec<f64> {
+        (0..count).map(|_| number(random, figures, least, most)).collect()
+    };
     let [draw, level, coefficient, outlet, shut_off, curve, sump] = match figures {
         Figures::Engineer => [0.02, 100.0, 0.05, 50.0, 100.0, 2000.0, 20.0],
         Figures::Small => [4.0, 16.0, 4.0, 8.0, 20.0, 2.0, 4.0],
     };
     match kind {
-        0 => DraftNode::junction(&schedule(random, figures, -draw / 4.0, draw)),
-        1 => DraftNode::reservoir(&schedule(random, figures, level / 2.0, level)),
+        0 => DraftNode::junction(&schedule(random, -draw / 4.0, draw)),
+        1 => DraftNode::reservoir(&schedule(random, level / 2.0, level)),
         2 => {
             let a = number(random, figures, 0.0, coefficient);
             let b = number(random, figures, 0.0, outlet);
-            DraftNode::valve(a, b, &schedule(random, figures, 0.0, 1.0))
+            DraftNode::valve(a, b, &schedule(random, 0.0, 1.0))
         }
         _ => {
             let a = number(random, figures, 0.0, shut_off);
             let b = number(random, figures, 0.0, curve);
             let c = number(random, figures, -sump / 4.0, sump);
-            DraftNode::pump(a, b, c, &schedule(random, figures, 0.0, 1.0))
+            DraftNode::pump(a, b, c, &schedule(random, 0.0, 1.0))
         }
     }
 }
@@ -116,9 +123,9 @@ fn add_sections(random: &mut Random, figures: Figures, draft: &mut Draft) {
 
 /// Brings the job down to the bytes that it may have.
 fn shorten_schedules(draft: &mut Draft, most_bytes: usize) {
-    let mut most = 255;
     while draft.byte_count() > most_bytes {
-        most /= 2;
+        let longest = draft.longest_schedule();
+        let most = longest - longest.div_ceil(4);
         for node in &mut draft.nodes {
             node.schedule.truncate(most);
         }
@@ -130,7 +137,6 @@ mod tests {
     use super::super::{odd, outlets};
     use super::*;
     use crate::listing::listing;
-    use crate::reader::read;
     use std::collections::BTreeSet;
 
     type Make = fn(&mut Random) -> Draft;
@@ -142,13 +148,33 @@ mod tests {
         for _ in 0..1500 {
             let draft = make(&mut random);
             let bytes = draft.bytes();
-            assert_eq!(Draft::from(&read(&bytes).unwrap()).bytes(), bytes);
+            assert_eq!(Draft::read(&bytes).unwrap(), draft);
             pipes.insert(draft.pipes.len());
             let listing = listing(&bytes);
             let last = listing.lines().last().unwrap();
             ends.insert(last.split(' ').next().unwrap().to_string());
         }
         (pipes, ends)
+    }
+
+    /// Some are short in each form, some of the long form are long, and some run past entry 255.
+    #[test]
+    fn jobs_have_every_form() {
+        let mut random = Random::new(7);
+        let (mut short, mut long, mut past) = ([0; 3], [0; 3], 0);
+        for _ in 0..1500 {
+            let draft = sound(&mut random);
+            let form = draft.form.place();
+            let longest = draft.longest_schedule();
+            if longest > 255 {
+                long[form] += 1;
+                past += usize::from(draft.steps > 255);
+            } else {
+                short[form] += 1;
+            }
+        }
+        assert!(short.iter().all(|&count| count > 100), "{short:?}");
+        assert!(long[..2] == [0, 0] && long[2] > 100 && past > 20, "{long:?} {past}");
     }
 
     #[test]

@@ -1,26 +1,56 @@
 //! A job from its text.
 
-use super::{FIGURES, KINDS, KINDS_IN_WORDS};
+use super::{FIGURES, FORMS, KINDS, KINDS_IN_WORDS};
 use crate::draft::{Draft, DraftNode, DraftPipe};
+use crate::layout::Form;
 use std::str::{FromStr, SplitWhitespace};
+
+/// What the lines have said so far.
+#[derive(Default)]
+struct Said {
+    draft: Draft,
+    /// Each schedule with the number of its line.
+    schedules: Vec<(usize, Vec<f64>)>,
+    /// What a `counts` line asked for, with its number.
+    counts: Option<(usize, Form)>,
+}
 
 /// The job that the text says, or in words what does not read.
 pub fn from_text(text: &str) -> Result<Draft, String> {
-    let mut draft = Draft::default();
-    let mut schedules = Vec::new();
+    let mut said = Said::default();
     for (line, at) in text.lines().zip(1..) {
-        let said = line.split('#').next().unwrap_or("");
-        read_line(Words(said.split_whitespace()), &mut draft, &mut schedules)
+        let words = line.split('#').next().unwrap_or("");
+        read_line(Words(words.split_whitespace()), at, &mut said)
             .map_err(|words| format!("line {at}: {words}"))?;
     }
+    schedules_fit(&said)?;
+    let Said { mut draft, schedules, counts } = said;
     let (nodes, given) = (draft.nodes.len(), schedules.len());
     if nodes != given {
         return Err(format!("there are {nodes} nodes but {given} schedules"));
     }
-    for (node, schedule) in draft.nodes.iter_mut().zip(schedules) {
+    for (node, (_, schedule)) in draft.nodes.iter_mut().zip(schedules) {
         node.schedule = schedule;
     }
+    draft.form = counts.map_or(draft.fewest_pairs(), |(_, form)| form);
     Ok(draft)
+}
+
+/// Each schedule against the counts of the widest form, or of the one asked for.
+fn schedules_fit(said: &Said) -> Result<(), String> {
+    let (most, why) = match said.counts {
+        Some((line, form)) if form != Form::FullTable6 => {
+            (form.most_entries(), format!("by line {line} "))
+        }
+        _ => (Form::FullTable6.most_entries(), String::new()),
+    };
+    match said.schedules.iter().find(|(_, schedule)| schedule.len() > most) {
+        None => Ok(()),
+        Some((line, schedule)) => Err(format!(
+            "line {line}: {why}a schedule has at most {most} entries, not {}",
+            schedule.len()
+        )),
+    }
 }
 
 /// The words of a line that are left to read.
@@ -58,14 +88,11 @@ impl Words<'_> {
     }
 }
 
-fn read_line(
-    mut words: Words<'_>,
-    draft: &mut Draft,
-    schedules: &mut Vec<Vec<f64>>,
-) -> Result<(), String> {
+fn read_line(mut words: Words<'_>, at: usize, said: &mut Said) -> Result<(), String> {
     let Some(first) = words.0.next() else {
         return Ok(());
     };
+    let draft = &mut said.draft;
     match first {
         "steps" => draft.steps = words.value("steps")?,
         "pipe" => draft.pipes.push(pipe(&mut words)?),
@@ -78,7 +105,13 @@ fn read_line(
             let section = [words.named("head")?, words.named("flow")?, words.named("floor")?];
             draft.sections.extend(vec![section; words.times()?]);
         }
-        "schedule" => schedules.push(schedule(&mut words)?),
+        "schedule" => said.schedules.push((at, schedule(&mut words)?)),
+        "counts" => {
+            if let Some((line, _)) = said.counts {
+                return Err(format!("line {line} has said how schedules are counted"));
+            }
+            said.counts = Some((at, counts(&mut words)?));
+        }
         word => return Err(format!("no line begins with `{word}`")),
     }
     words.end()
@@ -110,8 +143,12 @@ fn schedule(words: &mut Words<'_>) -> Result<Vec<f64>, String> {
     while words.0.clone().next().is_some() {
         entries.push(words.value("schedule")?);
     }
-    if entries.len() > 255 {
-        return Err(format!("a schedule has at most 255 entries, not {}", entries.len()));
-    }
     Ok(entries)
+}
+
+fn counts(words: &mut Words<'_>) -> Result<Form, String> {
+    let word: String = words.value("counts")?;
+    let form = FORMS.iter().find(|&&(name, _)| name == word);
+    let form = form.ok_or(format!("`{word}` is no way to count; it is `long` or `empty`"))?;
+    Ok(form.1)
 }

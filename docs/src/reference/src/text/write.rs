@@ -1,6 +1,6 @@
 //! A job to its text.
 
-use super::{FIGURES, KINDS};
+use super::{FIGURES, FORMS, KINDS};
 use crate::draft::{Draft, DraftNode};
 use std::fmt::Write;
 
@@ -19,7 +19,9 @@ pub fn to_text(about: &str, draft: &Draft) -> String {
     for line in about.lines() {
         text += &format!("# {line}\n");
     }
-    text += &format!("steps {}\n\n", draft.steps);
+    text += &format!("steps {}\n", draft.steps);
+    text += &counts_line(draft);
+    text += "\n";
     text += &pipe_lines(draft);
     for (node, at) in draft.nodes.iter().zip(0..) {
         text += &remarked(&node_line(node), &format!("node {at}"));
@@ -32,6 +34,14 @@ pub fn to_text(about: &str, draft: &Draft) -> String {
         text += &remarked(&format!("schedule {}", entries.join(" ")), &format!("node {at}"));
     }
     text
+}
+
+/// The `counts` line, where the text without one would have another form.
+fn counts_line(draft: &Draft) -> String {
+    match FORMS.iter().find(|&&(_, form)| form == draft.form) {
+        Some(&(word, form)) if form != draft.fewest_pairs() => format!("counts {word}\n"),
+        _ => String::new(),
+    }
 }
 
 /// A line with a remark after it.

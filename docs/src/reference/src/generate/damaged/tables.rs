@@ -1,7 +1,9 @@
-//! Damage inside the tables, for questions 5 to 15. Each breaks its question and none before it.
+//! Damage inside the tables, for questions 5 to 15 and 50. Each breaks its question and none before it.
 
 use super::super::Random;
 use super::Parts;
+
+mod counts;
 
 const PIPE: usize = 12;
 const NODE: usize = 26;
@@ -19,14 +21,8 @@ pub fn damage(random: &mut Random, parts: &mut Parts, question: u8) {
             let s = random.pick(&[0.0, -0.0, -LEAST, -1.0, f64::INFINITY, f64::NAN]);
             put(&mut parts.tables[0], at, s);
         }
-        10 => {
-            let at = record(random, &parts.tables[1], NODE);
-            if random.once_in(2) {
-                parts.tables[1][at] = random.from_to(4, 255) as u8;
-            } else {
-                parts.tables[1][at + 1] = 0;
-            }
-        }
+        10 => bad_kind_or_byte(random, parts),
+        50 => counts::bad_counts(random, parts),
         11 => bad_figure(random, parts),
         12 => lone_node(random, parts),
         13 => {
@@ -94,6 +90,17 @@ fn too_many_sections(random: &mut Random, parts: &mut Parts) {
     }
 }
 
+/// Question 10: a kind that there is not, or, where table 6 is empty, a byte of 0.
+fn bad_kind_or_byte(random: &mut Random, parts: &mut Parts) {
+    let at = record(random, &parts.tables[1], NODE);
+    if parts.byte_counts() && random.once_in(2) {
+        parts.tables[1][at + 1] = 0;
+    } else {
+        let any = random.from_to(4, 255) as u8;
+        parts.tables[1][at] = random.pick(&[4, 255, any]);
+    }
+}
+
 /// Question 11: a figure not finite, below zero where it may not be, or not all zero bits where the
 /// kind does not name it.
 fn bad_figure(random: &mut Random, parts: &mut Parts) {
@@ -112,7 +119,11 @@ fn bad_figure(random: &mut Random, parts: &mut Parts) {
 /// Question 12: one more junction, with a schedule, and no pipe that ends there.
 fn lone_node(random: &mut Random, parts: &mut Parts) {
     let mut node = [0; NODE];
-    node[1] = 1;
+    if parts.byte_counts() {
+        node[1] = 1;
+    } else {
+        parts.tables[5].extend(1_u16.to_le_bytes());
+    }
     parts.tables[1].extend(node);
     let draw = random.number(-1.0, 1.0);
     parts.tables[4].extend(draw.to_bits().to_le_bytes());
@@ -121,10 +132,10 @@ fn lone_node(random: &mut Random, parts: &mut Parts) {
 /// One number made `bad`, or the table longer or shorter than it should be.
 fn put_or_resize(random: &mut Random, table: &mut Vec<u8>, bad: f64) {
     if random.once_in(3) {
-        let more = random.pick(&[1, 7, 8, 24]);
+        let more = random.pick(&[1, 7, 8, 8, 24]);
         table.extend(vec![0; more]);
     } else if random.once_in(3) {
-        let fewer = random.pick(&[1, 7, 8]);
+        let fewer = random.pick(&[1, 7, 8, 8]);
         table.truncate(table.len() - fewer);
     } else {
         let at = record(random, table, 8);
@@ -149,16 +160,22 @@ fn bad_section(random: &mut Random, parts: &mut Parts) {
 
 /// Question 15: an entry not finite or out of its kind's range, or a table of another length.
 fn bad_entry(random: &mut Random, parts: &mut Parts) {
-    let above_one = f64::from_bits(0x3ff0_0000_0000_0001);
-    let mut first = 0;
-    for node in parts.tables[1].chunks_exact(NODE) {
-        if node[0] >= 2 && random.once_in(2) {
-            let entry = first + random.below(usize::from(node[1]));
-            let bad = random.pick(&[-LEAST, above_one, 2.0, -1.0]);
-            return put(&mut parts.tables[4], 8 * entry, bad);
-        }
-        first += usize::from(node[1]);
+    let way = random.below(3);
+    if way == 0 && !parts.byte_counts() && counts::misread(random, parts) {
+        return;
     }
-    let bad = random.pick(&NOT_FINITE);
-    put_or_resize(random, &mut parts.tables[4], bad);
+    if way == 1 {
+        let bad = random.pick(&NOT_FINITE);
+        return put_or_resize(random, &mut parts.tables[4], bad);
+    }
+    let counts = parts.counts();
+    let long = counts.iter().position(|&count| count > 255).filter(|_| random.once_in(2));
+    let node = long.unwrap_or_else(|| random.below(counts.len()));
+    let first: usize = counts[..node].iter().sum();
+    let entry = random.from_to(if long.is_some() { 255 } else { 0 }, counts[node] - 1);
+    let above_one = f64::from_bits(0x3ff0_0000_0000_0001);
+    let part = parts.tables[1][NODE * node] >= 2;
+    let bad = if part { &[-LEAST, above_one, 2.0, -1.0] } else { &NOT_FINITE[..] };
+    let bad = random.pick(bad);
+    put(&mut parts.tables[4], 8 * (first + entry), bad);
 }

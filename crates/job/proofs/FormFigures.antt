@@ -1,0 +1,76 @@
+-- Jobs of every form, by computation on their bytes: what they are read into, and which are refused. Assumes nothing.
+use mathlib.Core.Path.{_≡_, refl}
+use mathlib.Core.List.{List, [], _∷_, _++_}
+use Prim.Native.Nat.{ℕ}
+use lib.ListN.{set, take}
+use lib.Ieee.{Float, binary64, ofBits}
+use Rattle.fields.specs.Real.{one64}
+use Rattle.job.specs.Job.{scheduled}
+use Rattle.job.specs.Format.{nodeTable, countTable, scheduleCount, placeOf, jobOf}
+use Rattle.job.specs.JobQ.{jobQ}
+use Rattle.job.specs.SixPairs.{jobQEmptyCounts, jobQLongCounts, slowClosure}
+use Rattle.job.specs.Questions.{refusal, Accepted}
+use Rattle.job.proofs.AllDefinitions.{opened}
+
+abbrev half : Float
+half = ofBits binary64 0x3fe0_0000_0000_0000
+
+abbrev quarter : Float
+quarter = ofBits binary64 0x3fd0_0000_0000_0000
+
+abbrev eighth : Float
+eighth = ofBits binary64 0x3fc0_0000_0000_0000
+
+-- the counts in force of the reservoir and the valve
+abbrev counts : List ℕ → ℕ × ℕ
+counts job = (scheduleCount (nodeTable job) (countTable job) 0, scheduleCount (nodeTable job) (countTable job) 1)
+
+-- those of a byte, and those of table 6; the place after a schedule of 300 entries
+pub counts-are-read :
+    (counts jobQEmptyCounts ≡ (1, 1)) × (counts jobQLongCounts ≡ (1, 1)) × (counts slowClosure ≡ (1, 300))
+    × (placeOf (nodeTable jobQLongCounts) (44 ∷ 1 ∷ 1 ∷ 0 ∷ []) 1 ≡ 300)
+unfolding opened
+counts-are-read = (refl, refl, refl, refl)
+
+-- job Q as five pairs, as six with an empty table 6 and as six with a full one: one record. The counts are named first: see below.
+pub one-record :
+    (jobOf jobQEmptyCounts ≡ jobOf jobQ) × (jobOf jobQLongCounts ≡ jobOf jobQ) × Accepted jobQ × Accepted jobQEmptyCounts × Accepted jobQLongCounts
+unfolding opened
+one-record = let counted = counts-are-read in (refl, refl, refl, refl, refl)
+
+-- The value at step 255 is the last that a byte could count, at 256 the first that it could not; then on to the 300th, which is read at every later step.
+-- The counts are named first, so that where a slip makes them thousands these values are not computed.
+pub slow-closure-is-read :
+    (scheduled (jobOf slowClosure) 255 1 ≡ one64) × (scheduled (jobOf slowClosure) 256 1 ≡ half) × (scheduled (jobOf slowClosure) 299 1 ≡ quarter)
+    × (scheduled (jobOf slowClosure) 300 1 ≡ eighth) × (scheduled (jobOf slowClosure) 301 1 ≡ eighth)
+unfolding opened
+slow-closure-is-read = let counted = counts-are-read in (refl, refl, refl, refl, refl)
+
+-- Question 2: four pairs, and seven, of a file that would hold them; six pairs in a file of 53 bytes. One of 54 bytes goes on to question 3, as do six
+-- pairs whose first table begins at 46, five whose first begins at 54, and a sixth table that begins 2 bytes before the fifth ends.
+pub pairs-are-judged :
+    (refusal (set jobQ 0 4) ≡ 2) × (refusal (set jobQLongCounts 0 7) ≡ 2) × (refusal (take 53 jobQLongCounts) ≡ 2) × (refusal (take 54 jobQLongCounts) ≡ 3)
+    × (refusal (set jobQ 0 6) ≡ 3) × (refusal (set jobQLongCounts 0 5) ≡ 3) × (refusal (set (set jobQLongCounts 46 220) 50 6) ≡ 3)
+unfolding opened
+pairs-are-judged = (refl, refl, refl, refl, refl, refl, refl)
+
+-- Question 10 asks each form for the kind, and the byte where table 6 is empty: a node of kind 4, and a byte of 0.
+pub kinds-are-judged :
+    (refusal (set jobQLongCounts 66 4) ≡ 10) × (refusal (set jobQEmptyCounts 92 4) ≡ 10) × (refusal (set jobQ 59 0) ≡ 10) × (refusal (set jobQEmptyCounts 93 0) ≡ 10)
+unfolding opened
+kinds-are-judged = (refl, refl, refl, refl)
+
+-- Question 50 of job Q with long counts: a count of 0, first and last; a byte that is not 0, first and last; table 6 of one byte less, and of one more.
+pub counts-are-judged :
+    (refusal (set jobQLongCounts 222 0) ≡ 50) × (refusal (set jobQLongCounts 224 0) ≡ 50) × (refusal (set jobQLongCounts 67 1) ≡ 50)
+    × (refusal (set jobQLongCounts 93 1) ≡ 50) × (refusal (take 225 (set jobQLongCounts 50 3)) ≡ 50) × (refusal (set jobQLongCounts 50 5 ++ 0 ∷ []) ≡ 50)
+unfolding opened
+counts-are-judged = (refl, refl, refl, refl, refl, refl)
+
+-- 50 straight after 10: a kind 4 beside a count of 0; a count of 0 beside a valve's c of -0. A count of 256 where table 5 has one entry for the node is
+-- question 15's.
+pub order-is-kept :
+    (refusal (set (set jobQLongCounts 66 4) 222 0) ≡ 10) × (refusal (set (set jobQLongCounts 117 128) 222 0) ≡ 50) × (refusal (set jobQLongCounts 117 128) ≡ 11)
+    × (refusal (set (set jobQLongCounts 224 0) 225 1) ≡ 15)
+unfolding opened
+order-is-kept = (refl, refl, refl, refl)

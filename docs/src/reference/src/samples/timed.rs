@@ -1,0 +1,110 @@
+//! Jobs to be timed, and jobs with as many scheduled values as the bytes of a job hold.
+
+use crate::draft::{Draft, DraftNode};
+use crate::layout::Form;
+use crate::reader::MOST_BYTES;
+
+/// One pipe of 511 reaches from a reservoir to a valve that stays partly open.
+pub fn one_long_pipe() -> Draft {
+    let openings: Vec<f64> = (1..=200).map(|step| 1.0 - f64::from(step) / 400.0).collect();
+    let mut draft = Draft { steps: 10_000, ..Draft::default() };
+    let upper = draft.node(DraftNode::reservoir(&[150.0]));
+    let lower = draft.node(DraftNode::valve(0.04, 0.0, &openings));
+    draft.pipe(upper, lower, 511, 0.0016, 0.0);
+    // Each reach has its own friction and each section its own floor.
+    draft.friction.iter_mut().zip(0..).for_each(|(r, at)| *r = 9e-5 + 1e-8 * f64::from(at));
+    for at in 0..512 {
+        draft.section(150.0 - f64::from(at) * 0.0128, 0.477, -10.0 - 0.001 * f64::from(at));
+    }
+    draft
+}
+
+/// 32 pipes of so many reaches: eight rings of four pipes, each ring with a reservoir, a junction, a
+/// valve and a pump.
+pub fn many_pipes(reaches: u16) -> Draft {
+    let mut draft = Draft { steps: 10_000, ..Draft::default() };
+    for _ in 0..8 {
+        let reservoir = draft.node(DraftNode::reservoir(&[80.0]));
+        let junction = draft.node(DraftNode::junction(&[0.001, 0.002]));
+        let valve = draft.node(DraftNode::valve(0.01, 10.0, &[0.9, 0.8, 0.7]));
+        let pump = draft.node(DraftNode::pump(95.0, 2000.0, 2.0, &[0.8, 0.9, 1.0]));
+        for (start, finish) in
+            [(reservoir, junction), (junction, valve), (pump, valve), (reservoir, pump)]
+        {
+            draft.pipe(start, finish, reaches, 0.001, 0.01);
+        }
+    }
+    for _ in 0..draft.section_count() {
+        draft.section(80.0, 0.0, -10.0);
+    }
+    draft
+}
+
+/// A reservoir and a valve, joined by so many pipes of one reach.
+pub fn short_main(pipes: usize) -> Draft {
+    let mut draft = Draft { steps: 4_000, ..Draft::default() };
+    let upper = draft.node(DraftNode::reservoir(&[80.0]));
+    let lower = draft.node(DraftNode::valve(0.01, 10.0, &[0.9, 0.8, 0.7]));
+    for _ in 0..pipes {
+        draft.pipe(upper, lower, 1, 0.001, 0.01);
+        draft.section(80.0, 0.0, -10.0);
+        draft.section(80.0, 0.0, -10.0);
+    }
+    draft
+}
+
+/// The same with every schedule cut to its first entry, counted in table 6.
+pub fn with_one_entry(draft: &Draft) -> Draft {
+    let mut cut = draft.in_form(Form::FullTable6);
+    cut.nodes.iter_mut().for_each(|node| node.schedule.truncate(1));
+    cut
+}
+
+/// The same, counted in table 6, with the schedules from node `first` on repeated over and over to as
+/// many entries as a job holds.
+pub fn with_longest_schedules(draft: &Draft, first: usize) -> Draft {
+    let mut long = draft.in_form(Form::FullTable6);
+    long.nodes[first..].iter_mut().for_each(|node| node.schedule.clear());
+    let (entries, nodes) = ((MOST_BYTES - long.byte_count()) / 8, draft.nodes.len() - first);
+    for (place, (node, old)) in
+        long.nodes[first..].iter_mut().zip(&draft.nodes[first..]).enumerate()
+    {
+        let count = entries / nodes + usize::from(place < entries % nodes);
+        node.schedule = old.schedule.iter().copied().cycle().take(count).collect();
+    }
+    long
+}
+
+/// The longest jobs: one schedule as long as can be, which leaves four bytes over; the same in as many
+/// bytes as a full table 6 allows, for such a job's length is 2 modulo 4; the same of 32 nodes; and all
+/// the bytes that there may be, with table 6 empty.
+pub fn longest_jobs() -> [Draft; 4] {
+    [
+        with_longest_schedules(&short_main(1), 1),
+        with_longest_schedules(&short_main(2), 1),
+        with_longest_schedules(&many_pipes(1), 0),
+        longest_with_table_6_empty(),
+    ]
+}
+
+/// A chain of eight pipes of 63 reaches with six pairs, an empty table 6 and exactly as many bytes as a
+/// job may have.
+fn longest_with_table_6_empty() -> Draft {
+    let mut draft = Draft { form: Form::EmptyTable6, steps: 300, ..Draft::default() };
+    draft.node(DraftNode::reservoir(&levels(223)));
+    for node in 1..8 {
+        draft.node(DraftNode::junction(&vec![0.001; 223]));
+        draft.pipe(node - 1, node, 63, 0.002, 0.01);
+    }
+    draft.node(DraftNode::valve(0.01, 10.0, &vec![0.5; 224]));
+    draft.pipe(7, 8, 63, 0.002, 0.01);
+    for _ in 0..draft.section_count() {
+        draft.section(80.0, 0.0, -100.0);
+    }
+    draft
+}
+
+/// Levels that rise slowly from 80 m.
+fn levels(count: u32) -> Vec<f64> {
+    (0..count).map(|at| 80.0 + 0.01 * f64::from(at)).collect()
+}
