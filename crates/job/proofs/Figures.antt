@@ -1,11 +1,13 @@
 -- Two jobs of real bytes: what they are read into, by computation, and that they are accepted. Assumes nothing.
 use mathlib.Core.Path.{_≡_, refl}
-use mathlib.Core.List.{[], _∷_}
+use mathlib.Core.List.{List, [], _∷_}
+use Prim.Native.Nat.{ℕ}
 use lib.ListN.{set}
 use lib.Ieee.{Float, binary64, ofBits}
 use Rattle.fields.specs.Real.{zero64, one64, two64, four64}
 use Rattle.job.specs.Job.{junction, reservoir, valve, pump, laid, laidFrom, nodeAt, entryAt, scheduled}
-use Rattle.job.specs.Format.{jobOf}
+use Rattle.loops.specs.Loops.{listed}
+use Rattle.job.specs.Format.{nodeTable, countTable, placeOf, jobOf}
 use Rattle.job.specs.JobQ.{jobQ}
 use Rattle.job.specs.OwnJobs.{jobOfAllKinds, wrappedPairs}
 use Rattle.job.specs.Questions.{refusal, Accepted}
@@ -53,6 +55,16 @@ minusThree = ofBits binary64 0xc008_0000_0000_0000
 
 abbrev minusFour : Float
 minusFour = ofBits binary64 0xc010_0000_0000_0000
+
+-- The places of four schedules and of what comes after them: the counts are 1, 3, 2 and 1 by the bytes, and 300, 1, 257 and 2 by a table 6.
+abbrev places : List ℕ → List ℕ
+places counts = listed 5 (placeOf (nodeTable jobOfAllKinds) counts)
+
+pub places-are-summed :
+    (places (countTable jobOfAllKinds) ≡ 0 ∷ 1 ∷ 4 ∷ 6 ∷ 7 ∷ [])
+    × (places (44 ∷ 1 ∷ 1 ∷ 0 ∷ 1 ∷ 1 ∷ 2 ∷ 0 ∷ []) ≡ 0 ∷ 300 ∷ 301 ∷ 558 ∷ 560 ∷ [])
+unfolding opened
+places-are-summed = (refl, refl)
 
 pub job-Q-is-read :
     jobOf jobQ

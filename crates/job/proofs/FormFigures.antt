@@ -6,7 +6,7 @@ use lib.ListN.{set, take}
 use lib.Ieee.{Float, binary64, ofBits}
 use Rattle.fields.specs.Real.{one64}
 use Rattle.job.specs.Job.{scheduled}
-use Rattle.job.specs.Format.{nodeTable, countTable, scheduleCount, placeOf, jobOf}
+use Rattle.job.specs.Format.{nodeTable, countTable, scheduleCount, jobOf}
 use Rattle.job.specs.JobQ.{jobQ}
 use Rattle.job.specs.SixPairs.{jobQEmptyCounts, jobQLongCounts, slowClosure}
 use Rattle.job.specs.Questions.{refusal, Accepted}
@@ -25,12 +25,10 @@ eighth = ofBits binary64 0x3fc0_0000_0000_0000
 abbrev counts : List ℕ → ℕ × ℕ
 counts job = (scheduleCount (nodeTable job) (countTable job) 0, scheduleCount (nodeTable job) (countTable job) 1)
 
--- those of a byte, and those of table 6; the place after a schedule of 300 entries
-pub counts-are-read :
-    (counts jobQEmptyCounts ≡ (1, 1)) × (counts jobQLongCounts ≡ (1, 1)) × (counts slowClosure ≡ (1, 300))
-    × (placeOf (nodeTable jobQLongCounts) (44 ∷ 1 ∷ 1 ∷ 0 ∷ []) 1 ≡ 300)
+-- those of a byte, and those of table 6
+pub counts-are-read : (counts jobQEmptyCounts ≡ (1, 1)) × (counts jobQLongCounts ≡ (1, 1)) × (counts slowClosure ≡ (1, 300))
 unfolding opened
-counts-are-read = (refl, refl, refl, refl)
+counts-are-read = (refl, refl, refl)
 
 -- job Q as five pairs, as six with an empty table 6 and as six with a full one: one record. The counts are named first: see below.
 pub one-record :

@@ -1,5 +1,5 @@
 -- What the yes to questions 10, 50, 11 and 15 says of a node. Assumes nothing.
-use mathlib.Core.Path.{_≡_, refl, ap, _∙_}
+use mathlib.Core.Path.{_≡_, refl, sym, ap, _∙_}
 use mathlib.Core.Bool.{Bool, true, false, cond, _&&_, _||_}
 use mathlib.Core.List.{List}
 use Prim.Native.Nat.{ℕ, _+_, _-_, _*_, _<_, _≤_, min}
@@ -12,10 +12,9 @@ use borrow.Author.Tests.{leb-true, eqb-true, eq-eqb, ne-eqb, lt-ltb, le-ltb}
 use Rattle.fields.specs.Real.{zero64}
 use Rattle.fields.specs.Finite.{finiteAt}
 use Rattle.loops.proofs.All.{all-at, all-both, all-of}
-use Rattle.job.specs.Job.{ScheduledNode, entryAt}
-use Rattle.job.specs.Format.{nodeCount, kindNumber, countByte, aOf, bOf, cOf, isEmpty, longCount, scheduleCount, placeOf, entryIn, nodeIn, nodesIn}
+use Rattle.job.specs.Job.{nodeAt, entryAt}
+use Rattle.job.specs.Format.{nodeTable, scheduleTable, countTable, nodeCount, kindNumber, countByte, aOf, bOf, cOf, isEmpty, longCount, scheduleCount, placeOf, entryIn, nodeIn, nodesIn, jobOf}
 use Rattle.loops.specs.Loops.{allBelow, listed}
-use Rattle.job.specs.TableEntries.{nodeOf}
 use Rattle.job.specs.QuestionParts.{numbersFinite, from0To1}
 use Rattle.job.specs.Questions.{allFinite, figuresFitKind, figureFits, figuresFit, kindFits, kindsFit, countFits, eachCountFits, countsFit, entryFits, scheduleFits, schedulesFit, hasLength, schedulesRight}
 use Rattle.loops.proofs.Tests.{both, half-fails, half-holds}
@@ -74,34 +73,10 @@ count-least nodes counts h f node l = go (isEmpty counts) refl
 -- ---- schedules
 
 pub node-is :
-    (nodes counts schedules : List ℕ) (node : ℕ) → node < nodeCount nodes → nodeOf nodes counts schedules node ≡ nodeIn nodes counts schedules node
-unfolding nodesIn
-node-is nodes counts schedules node l = getD-listed (nodeCount nodes) (nodeIn nodes counts schedules) node _ l
-
-module _ (nodes counts schedules : List ℕ) (right : schedulesRight nodes counts schedules ≡ true) where
-  size-right : length schedules ≡ placeOf nodes counts (nodeCount nodes) * 8
-  unfolding schedulesRight
-  size-right = eqb-true _ _ (both (hasLength (placeOf nodes counts (nodeCount nodes) * 8) schedules) _ right .0)
-
-  fits : schedulesFit nodes counts schedules ≡ true
-  unfolding schedulesRight
-  fits = both (hasLength (placeOf nodes counts (nodeCount nodes) * 8) schedules) _ right .1
-
-  module _ (node : ℕ) (l : node < nodeCount nodes) where
-    pub entry-within : (placeOf nodes counts node + scheduleCount nodes counts node) * 8 ≤ length schedules
-    entry-within = omega (arith, size-right, place-rises nodes counts (node + 1) (nodeCount nodes) (omega arith), place-more nodes counts node)
-
-    -- question 15 of an entry, its place counted from the node's first
-    entry-asked : ℕ → Bool
-    entry-asked i = entryFits (kindNumber nodes node) (entryIn schedules (placeOf nodes counts node + i))
-
-    entry-fits : (i : ℕ) → i < scheduleCount nodes counts node → entry-asked i ≡ true
-    unfolding schedulesFit scheduleFits entry-asked
-    entry-fits i m = all-at entry-asked i (scheduleCount nodes counts node) (all-at (scheduleFits nodes counts schedules) node (nodeCount nodes) fits l) m
-
-    pub entry-finite : (i : ℕ) → i < scheduleCount nodes counts node → finiteAt schedules ((placeOf nodes counts node + i) * 8) ≡ true
-    unfolding finiteAt entryFits entry-asked
-    entry-finite i m = both (finite (entryIn schedules (placeOf nodes counts node + i))) _ (entry-fits i m) .0
+    (job : List ℕ) (node : ℕ) → node < nodeCount (nodeTable job)
+    → nodeAt (jobOf job) node ≡ nodeIn (nodeTable job) (countTable job) (scheduleTable job) node
+unfolding nodeAt jobOf nodesIn
+node-is job node l = getD-listed (nodeCount (nodeTable job)) (nodeIn (nodeTable job) (countTable job) (scheduleTable job)) node _ l
 
 -- question 15 of `count` entries by its two halves: a kind below 2 asks no more than that they are finite
 module _ (schedules : List ℕ) (kind place count : ℕ) where
@@ -131,16 +106,29 @@ module _ (schedules : List ℕ) (kind place count : ℕ) where
     pub as-ranged : {t : Bool} → 2 ≤ kind → t ≡ ranged → t ≡ fitting
     as-ranged l e = e ∙ half-holds _ _ (halves ∙ rw (le-ltb kind 2 l)) h
 
--- the value at step n: entry n - 1, counted from 0, and the last after it
-entry-of : (count : ℕ) (f : ℕ → Float) (n : ℕ) → 1 ≤ n → 1 ≤ count → entryAt (listed count f) n ≡ f (min n count - 1)
-unfolding entryAt
-entry-of count f n l m = rw (length-listed count f) (getD-listed count f (min n count - 1) zero64 (omega arith))
+  pub finite-fitting : fitting ≡ true → numbersFinite schedules place count ≡ true
+  finite-fitting h = both (numbersFinite schedules place count) _ (sym halves ∙ h) .0
 
-pub value-is :
-    (nodes counts schedules : List ℕ) (node n i : ℕ) → node < nodeCount nodes → 1 ≤ n → 1 ≤ scheduleCount nodes counts node
-    → i ≡ min n (scheduleCount nodes counts node) - 1
-    → entryAt (nodeOf nodes counts schedules node .schedule) n ≡ entryIn schedules (placeOf nodes counts node + i)
-unfolding nodeIn
-value-is nodes counts schedules node n i l m k e =
-    ap (λ (z : ScheduledNode). entryAt (z .schedule) n) (node-is nodes counts schedules node l)
-    ∙ rw e (entry-of (scheduleCount nodes counts node) (λ j. entryIn schedules (placeOf nodes counts node + j)) n m k)
+module _ (nodes counts schedules : List ℕ) (right : schedulesRight nodes counts schedules ≡ true) where
+  size-right : length schedules ≡ placeOf nodes counts (nodeCount nodes) * 8
+  unfolding schedulesRight
+  size-right = eqb-true _ _ (both (hasLength (placeOf nodes counts (nodeCount nodes) * 8) schedules) _ right .0)
+
+  fits : schedulesFit nodes counts schedules ≡ true
+  unfolding schedulesRight
+  fits = both (hasLength (placeOf nodes counts (nodeCount nodes) * 8) schedules) _ right .1
+
+  -- of a node's own entries, from the place and the count in hand
+  module _ {node place count : ℕ} (l : node < nodeCount nodes) (p : place ≡ placeOf nodes counts node) (k : count ≡ scheduleCount nodes counts node) where
+    pub entries-within : (place + count) * 8 ≤ length schedules
+    entries-within = omega (arith, size-right, place-rises nodes counts (node + 1) (nodeCount nodes) (omega arith), place-more nodes counts node, p, k)
+
+    pub entries-finite : numbersFinite schedules place count ≡ true
+    unfolding schedulesFit scheduleFits
+    entries-finite =
+        rw (p, k) (finite-fitting _ (kindNumber nodes node) _ _ (all-at (scheduleFits nodes counts schedules) node (nodeCount nodes) fits l))
+
+-- the value at step n: entry n - 1, counted from 0, and the last after it
+pub entry-of : (count : ℕ) (f : ℕ → Float) (n i : ℕ) → 1 ≤ n → 1 ≤ count → i ≡ min n count - 1 → entryAt (listed count f) n ≡ f i
+unfolding entryAt
+entry-of count f n i l m e = rw (length-listed count f, ← e) (getD-listed count f i zero64 (omega arith))

@@ -7,7 +7,8 @@ ghost use Rattle.job.specs.Questions.{Accepted};
 ghost use Rattle.pipe_ends.specs.FromRows.{overNodes, headBy};
 use wave::Sums;
 
-// v of each node at a step, counted from 1. The place of a schedule is carried along.
+// v of each node at a step, counted from 1. The place of a node's schedule, the sum of the counts before it, is carried
+// along. This is the one place that a step has its values from.
 pub fn values_at(job: &[u8], step: usize) -> [f64; 32]
     requires { ⌜ (Accepted (now job)) × (1 ≤ step) ⌝ }
     ensures { λ r. ⌜ r ≡ overNodes (now (job .entry)) (scheduled (jobOf (now (job .entry))) step) ⌝ }
@@ -20,8 +21,9 @@ pub fn values_at(job: &[u8], step: usize) -> [f64; 32]
     let mut place = 0;
     let mut node = 0;
     while node < count {
-        values[node] = job::schedules::value_at(nodes, counts, schedules, node, place, step);
-        place = job::schedules::next_place(nodes, counts, node, place);
+        let entries = job::schedules::schedule_count(nodes, counts, node);
+        values[node] = job::schedules::value_at(schedules, place, entries, step);
+        place = place + entries;
         node += 1;
     }
     values

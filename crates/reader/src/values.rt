@@ -5,13 +5,12 @@ ghost use Prim.Native.Nat.{_+_, _*_, _<_, _≤_};
 ghost use lib.ListN.{length};
 ghost use lib.Dec.{eqb};
 ghost use Rattle.loops.specs.Loops.{allBelow};
-ghost use Rattle.job.specs.Format.{nodeCount, placeOf, entryIn};
+ghost use Rattle.job.specs.Format.{entryIn};
 ghost use Rattle.job.specs.Questions.{frictionFits, frictionRight, initialFits, initialRight};
-ghost use Rattle.job.specs.Questions.{countsFit, entryFits, schedulesFit, schedulesRight};
+ghost use Rattle.job.specs.Questions.{countsFit, entryFits, schedulesRight};
 ghost use Rattle.job.specs.Questions.{pairQuestions, nodeQuestions, valueQuestions, firstNo};
 ghost use Rattle.job.specs.QuestionParts.{numbersFinite, eachFinite, noneBelowZero};
 ghost use Rattle.job.specs.QuestionParts.{sectionsFinite, noneBelowFloor, from0To1};
-use job::schedules::next_place;
 use job::schedules::schedule_count;
 
 // How many of n numbers of a table, from number `first` on, are not finite. They are counted, here and below, so
@@ -137,51 +136,28 @@ fn schedule_fits(schedules: &[u8], kind: usize, place: usize, count: usize) -> b
     out_of_range(schedules, place, count) == 0
 }
 
-// 15, of each node. The place of a schedule is carried along.
-fn schedules_fit(nodes: &[u8], counts: &[u8], schedules: &[u8]) -> bool
-    requires { ⌜ (placeOf (now nodes) (now counts) (nodeCount (now nodes)) * 8 ≤ length (now schedules))
-        × (length (now nodes) ≤ 32768) × (countsFit (now nodes) (now counts) ≡ true) ⌝ }
-    ensures { λ r. ⌜ r ≡ schedulesFit (now (nodes .entry)) (now (counts .entry)) (now (schedules .entry)) ⌝ }
+// 15. The place of a node's schedule, the sum of the counts before it, is carried along. Where a schedule ends past
+// the table, the table is too short for all of them.
+fn schedules_right(nodes: &[u8], counts: &[u8], schedules: &[u8]) -> bool
+    requires { ⌜ (length (now nodes) ≤ 32768) × (countsFit (now nodes) (now counts) ≡ true) ⌝ }
+    ensures { λ r. ⌜ r ≡ schedulesRight (now (nodes .entry)) (now (counts .entry)) (now (schedules .entry)) ⌝ }
 {
     let n = nodes.len() / 26;
     let mut place = 0;
     let mut node = 0;
     while node < n {
         let count = schedule_count(nodes, counts, node);
+        let next = place + count;
+        if schedules.len() < next * 8 {
+            return false;
+        }
         if !schedule_fits(schedules, job::nodes::kind(nodes, node), place, count) {
             return false;
         }
-        place = next_place(nodes, counts, node, place);
+        place = next;
         node += 1;
     }
-    true
-}
-
-// The number of entries in all schedules.
-fn entry_count(nodes: &[u8], counts: &[u8]) -> usize
-    requires { ⌜ (length (now nodes) ≤ 32768) × (countsFit (now nodes) (now counts) ≡ true) ⌝ }
-    ensures { λ r. ⌜ (r ≡ placeOf (now (nodes .entry)) (now (counts .entry)) (nodeCount (now (nodes .entry))))
-        × (r < 134217728) ⌝ }
-{
-    let n = nodes.len() / 26;
-    let mut place = 0;
-    let mut node = 0;
-    while node < n {
-        place = next_place(nodes, counts, node, place);
-        node += 1;
-    }
-    place
-}
-
-// 15
-fn schedules_right(nodes: &[u8], counts: &[u8], schedules: &[u8]) -> bool
-    requires { ⌜ (length (now nodes) ≤ 32768) × (countsFit (now nodes) (now counts) ≡ true) ⌝ }
-    ensures { λ r. ⌜ r ≡ schedulesRight (now (nodes .entry)) (now (counts .entry)) (now (schedules .entry)) ⌝ }
-{
-    if schedules.len() != entry_count(nodes, counts) * 8 {
-        return false;
-    }
-    schedules_fit(nodes, counts, schedules)
+    schedules.len() == place * 8
 }
 
 // The first of questions 13 to 15 with a no, or 0. Question 50 has let the counts pass.

@@ -8,7 +8,7 @@ use lib.ListN.{length, replicate}
 use borrow.Author.Needs.{needs}
 use Rattle.fields.specs.Real.{zero64}
 use Rattle.loops.proofs.Fill.{Upto, upto-none, upto-step, upto-done}
-use Rattle.job.specs.Job.{ScheduledNode, nodeAt, withValue}
+use Rattle.job.specs.Job.{ScheduledNode, withValue}
 use Rattle.job.specs.Format.{jobOf, kindIn, nodeIn, nodeTable, nodeCount}
 use Rattle.job.proofs.NodeLaws.{node-is}
 use Rattle.job.proofs.Accepted.{tables-right}
@@ -45,14 +45,14 @@ node-read : (c : tie.After-node-with Inv-loop μ-loop)
     → let args = start (c .before .before .before) .args in
     let values = args .t2 in
     c .node-with .result ≡ nodesWith (jobOf (args .job .now)) (valueIn values) (c .before .before .loop .node)
-unfolding nodesWith nodeAt jobOf nodeIn
+unfolding nodesWith nodeIn
 node-read c =
     let table : tie.After-nodes Inv-loop μ-loop = c .before .before .before in
     let node = c .before .before .loop .node in
     let v = valueIn (start table .args .t2) node in
     c .node-with .ensures
     ∙ ap (λ (nodes : List ℕ). withValue (kindIn nodes node) v) (table .nodes .ensures)
-    ∙ sym (ap (λ (z : ScheduledNode). withValue (z .kind) v) (node-is _ _ _ node (here (c .before))))
+    ∙ sym (ap (λ (z : ScheduledNode). withValue (z .kind) v) (node-is _ node (here (c .before))))
 
 loop-again : tie.Need-loop-again Inv-loop μ-loop
 loop-again c =

@@ -1,6 +1,7 @@
--- `pipe_ends::nodes::values_at` meets its contract: the row is filled up to a node whose schedule begins at the place carried. Assumes nothing.
-use mathlib.Core.Path.{_≡_, refl, ap, _∙_}
-use Prim.Native.Nat.{_-_, _*_, _<_, _≤_}
+-- `pipe_ends::nodes::values_at` meets its contract: the row is filled up to a node, and the place carried there is the sum of the counts before it, so that the
+-- entries read are the node's own. Assumes nothing.
+use mathlib.Core.Path.{ap, _∙_}
+use Prim.Native.Nat.{_-_, _<_, _≤_}
 use native.Mathlib.Omega.{arith}
 use lib.ListN.{length, replicate}
 use denote.Ref.{now}
@@ -8,28 +9,29 @@ use borrow.Author.Needs.{needs}
 use Rattle.fields.specs.Real.{zero64}
 use Rattle.loops.proofs.Fill.{Upto, upto-none, upto-step, upto-done}
 use Rattle.job.specs.Job.{scheduled}
-use Rattle.job.specs.Format.{jobOf, placeOf}
-use Rattle.job.proofs.TableBounds.{table-short}
+use Rattle.job.specs.Format.{jobOf}
 use Rattle.job.specs.QuestionParts.{NodesRight}
-use Rattle.job.proofs.Accepted.{tables-right, nodes-right, scheduled-is}
+use Rattle.job.proofs.Places.{SumBefore, sum-before-none, sum-before-more}
+use Rattle.job.proofs.NodeLaws.{count-least, entries-within, entries-finite}
+use Rattle.job.proofs.Accepted.{nodes-right, scheduled-is}
 use Rattle.pipe_ends.proofs.Acceptance.{pairs-accepted, few-nodes}
 use Rattle.pipe_ends.proofs.nodes.values_at.Statement.{statement}
 use Rattle.pipe_ends.proofs.nodes.values_at.Tie as tie
 
 abbrev Inv-loop : tie.InvT-loop
 Inv-loop job step nodes schedules counts count values₀ place₀ node₀ values place node =
-    (place ≡ placeOf nodes counts node) × (place ≤ node * 65536) × (Upto (scheduled (jobOf job) step) (replicate 32 zero64) 0 count node values)
+    SumBefore nodes counts node place × Upto (scheduled (jobOf job) step) (replicate 32 zero64) 0 count node values
 
 abbrev μ-loop : tie.MeasureT-loop
 μ-loop job step nodes schedules counts count values₀ place₀ node₀ values place node = count - node
 
-loop-holds : tie.Need-loop-holds Inv-loop μ-loop
-unfolding placeOf
-loop-holds c = (refl, search needs, upto-none)
-
 -- the function's entry
 abbrev start : tie.After-counts Inv-loop μ-loop → tie.Start Inv-loop μ-loop
 start c = c .before .before .before .before
+
+-- where the tables have been handed out, in a turn
+abbrev tables : tie.In-loop Inv-loop μ-loop → tie.After-counts Inv-loop μ-loop
+tables c = c .before .before
 
 -- the tables as they were handed out are those that the questions have let pass
 right :
@@ -39,35 +41,39 @@ right c = nodes-right _ (c .before .before .nodes .ensures) (c .counts .ensures)
 
 -- the loop has not passed the last node
 low : (c : tie.In-loop Inv-loop μ-loop) → c .before .loop .node < 32
-low c =
-    let tables : tie.After-counts Inv-loop μ-loop = c .before .before in
-    omega (arith, few-nodes _ (start tables .pre .0), ap length (tables .before .before .nodes .ensures))
-
-value-at-requires : tie.Need-value-at-requires Inv-loop μ-loop
-value-at-requires c κs =
-    let tables : tie.After-counts Inv-loop μ-loop = c .before .before in
-    (right tables, c .loop-test .taken, c .before .loop .inv .0, start tables .pre .1)
-
-next-place-requires : tie.Need-next-place-requires Inv-loop μ-loop
-next-place-requires c κs =
-    let turn : tie.In-loop Inv-loop μ-loop = c .before in
-    let tables : tie.After-counts Inv-loop μ-loop = turn .before .before in
-    let inv = turn .before .loop .inv in
-    let size = tables-right _ (start tables .pre .0) .pairs .size in
-    (inv .0, inv .1, turn .loop-test .taken, rw (tables .before .before .nodes .ensures) (table-short _ size 1), right tables .counted)
+low c = omega (arith, few-nodes _ (start (tables c) .pre .0), ap length (tables c .before .before .nodes .ensures))
 
 loop-again : tie.Need-loop-again Inv-loop μ-loop
 loop-again c =
-    let turn : tie.In-loop Inv-loop μ-loop = c .before .before in
-    let tables : tie.After-counts Inv-loop μ-loop = turn .before .before in (
-      c .next-place .ensures .0,
-      c .next-place .ensures .1,
-      upto-step (turn .before .loop .inv .2) (turn .loop-test .taken) (omega arith)
-          (scheduled-is _ _ _ (tables .before .before .nodes .ensures) (tables .counts .ensures) (tables .before .schedules .ensures) (c .before .value-at .ensures)),
+    let counted : tie.After-schedule-count Inv-loop μ-loop = c .before in
+    let turn : tie.In-loop Inv-loop μ-loop = counted .before in
+    let from : tie.After-counts Inv-loop μ-loop = tables turn in
+    let inv = turn .before .loop .inv in (
+      sum-before-more _ _ (inv .0) (counted .schedule-count .ensures .0) (counted .schedule-count .ensures .1),
+      upto-step (inv .1) (turn .loop-test .taken) (omega arith)
+          (scheduled-is _ _ _ (from .before .before .nodes .ensures) (from .counts .ensures) (from .before .schedules .ensures) (turn .loop-test .taken)
+          (inv .0 .sum) (counted .schedule-count .ensures .0) (c .value-at .ensures)),
+    )
+
+-- the node has an entry
+least : (c : tie.After-schedule-count Inv-loop μ-loop) → 1 ≤ c .schedule-count .result
+least c =
+    let known = right (tables (c .before)) in
+    rw (c .schedule-count .ensures .0) (count-least _ _ (known .kinds) (known .counted) _ (c .before .loop-test .taken))
+
+value-at-requires : tie.Need-value-at-requires Inv-loop μ-loop
+value-at-requires c κs =
+    let turn : tie.In-loop Inv-loop μ-loop = c .before in
+    let entries = right (tables turn) .entries in
+    let sum = turn .before .loop .inv .0 .sum in (
+      least c,
+      start (tables turn) .pre .1,
+      entries-within _ _ _ entries (turn .loop-test .taken) sum (c .schedule-count .ensures .0),
+      entries-finite _ _ _ entries (turn .loop-test .taken) sum (c .schedule-count .ensures .0),
     )
 
 returns : tie.Need-returns Inv-loop μ-loop
-returns c = upto-done (c .before .loop .inv .2) (c .loop-test .left) ∙ rw (c .before .before .before .before .nodes .ensures)
+returns c = upto-done (c .before .loop .inv .1) (c .loop-test .left) ∙ rw (c .before .before .before .before .nodes .ensures)
 
 pub values-at-spec : {M : Type 1} → statement M
 values-at-spec =
@@ -78,11 +84,12 @@ values-at-spec =
     (λ c κs. pairs-accepted _ (c .before .pre .0))
     (λ c κs. pairs-accepted _ (c .before .before .pre .0))
     (λ c κs. pairs-accepted _ (c .before .before .before .pre .0))
-    loop-holds
+    (λ c. (sum-before-none _ _, upto-none))
+    (λ c κs. (omega arith, right (tables c) .counted))
     value-at-requires
-    (λ c. omega (arith, low (c .before)))
-    (λ c. low (c .before))
-    next-place-requires
+    (λ c. omega (arith, low (c .before .before)))
+    (λ c. low (c .before .before))
+    (λ c. omega (arith, low (c .before .before), c .before .before .before .loop .inv .0 .small, c .before .schedule-count .ensures .1))
     (λ c. search needs)
     (λ c. search needs)
     loop-again
