@@ -1,23 +1,21 @@
 -- What an accepted job holds, of the tables and of the record that they are read into. Assumes nothing.
-use mathlib.Core.Path.{_≡_, sym, ap, _∙_}
+use mathlib.Core.Path.{_≡_}
 use mathlib.Core.Bool.{true, not, _&&_}
 use mathlib.Core.List.{List}
 use mathlib.Core.Option.{some}
 use Prim.Native.Nat.{ℕ, _*_, _/_, _%_, _<_, _≤_}
 use lib.ListN.{length, getElem?}
 use lib.Dec.{eqb, leb, ltb}
-use lib.Ieee.{Float, lt}
+use lib.Ieee.{lt}
 use lib.Ieee.Scale.{finite}
 use Rattle.fields.specs.Real.{zero64}
 use borrow.Author.Tests.{leb-true, ltb-true, eqb-true, eqb-false, not-true}
 use Rattle.loops.proofs.All.{all-at}
-use Rattle.job.specs.Job.{Pipe, ScheduledNode, sectionsOf, sections, entryAt, scheduled}
-use Rattle.job.specs.Format.{pipeTable, nodeTable, frictionTable, initialTable, scheduleTable, countTable, pipeCount, pipeIn, pipesIn, reachesOf, nodeCount, scheduleCount, placeOf, nodeIn, nodesIn, jobOf}
+use Rattle.job.specs.Job.{Pipe, sectionsOf, sections}
+use Rattle.job.specs.Format.{pipeTable, nodeTable, frictionTable, initialTable, scheduleTable, countTable, pipeCount, pipeIn, pipesIn, reachesOf, nodeCount, nodesIn, jobOf}
 use Rattle.job.specs.Questions.{holdsRecords, joins, pipesJoin, sectionsFit, constantFits, constantsFit, kindsFit, countsFit, figuresFit, nodesMet, frictionFits, frictionRight, hasLength, initialFits, initialRight, schedulesRight, pipeQuestions, nodeQuestions, valueQuestions, firstNo, Accepted}
 use Rattle.job.specs.QuestionParts.{NodesRight}
-use Rattle.job.specs.TableEntries.{entriesFrom}
 use Rattle.job.proofs.FirstNo.{yes, none-refused}
-use Rattle.job.proofs.NodeLaws.{node-is}
 use Rattle.job.proofs.TableBounds.{PairsRight, pairs-right}
 use Rattle.loops.proofs.Tests.{both}
 use Rattle.loops.proofs.Listed.{length-listed, listed-some}
@@ -77,15 +75,6 @@ pub nodes-right :
     {nodes counts schedules : List ℕ} (job : List ℕ) → nodes ≡ nodeTable job → counts ≡ countTable job → schedules ≡ scheduleTable job → Accepted job
     → NodesRight nodes counts schedules
 nodes-right job n c s h = rw (n, c, s) (tables-right job h .nodes)
-
--- a value read from the entries of a node's schedule is the record's
-pub scheduled-is :
-    {nodes counts schedules : List ℕ} {place count : ℕ} {v : Float} (job : List ℕ) (step node : ℕ) → nodes ≡ nodeTable job → counts ≡ countTable job
-    → schedules ≡ scheduleTable job → node < nodeCount nodes → place ≡ placeOf nodes counts node → count ≡ scheduleCount nodes counts node
-    → v ≡ entryAt (entriesFrom schedules place count) step → v ≡ scheduled (jobOf job) step node
-unfolding scheduled nodeIn
-scheduled-is job step node n c s l p k e =
-    (rw (k, p, s, c, n) at e) ∙ sym (ap (λ (z : ScheduledNode). entryAt (z .schedule) step) (node-is job node (rw (← n) l)))
 
 -- what a table of whole records holds
 records-are : (width low high : ℕ) (t : List ℕ) → holdsRecords width low high t ≡ true → (low ≤ length t / width) × (length t / width ≤ high)

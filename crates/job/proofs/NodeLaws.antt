@@ -1,4 +1,4 @@
--- What the yes to questions 10, 50, 11 and 15 says of a node. Assumes nothing.
+-- What the yes to questions 10, 50, 11 and 15 says of a node, and the value that its schedule has at a step. Assumes nothing.
 use mathlib.Core.Path.{_≡_, refl, sym, ap, _∙_}
 use mathlib.Core.Bool.{Bool, true, false, cond, _&&_, _||_}
 use mathlib.Core.List.{List}
@@ -12,8 +12,8 @@ use borrow.Author.Tests.{leb-true, eqb-true, eq-eqb, ne-eqb, lt-ltb, le-ltb}
 use Rattle.fields.specs.Real.{zero64}
 use Rattle.fields.specs.Finite.{finiteAt}
 use Rattle.loops.proofs.All.{all-at, all-both, all-of}
-use Rattle.job.specs.Job.{nodeAt, entryAt}
-use Rattle.job.specs.Format.{nodeTable, scheduleTable, countTable, nodeCount, kindNumber, countByte, aOf, bOf, cOf, isEmpty, longCount, scheduleCount, placeOf, entryIn, nodeIn, nodesIn, jobOf}
+use Rattle.job.specs.Job.{ScheduledNode, nodeAt, entryAt, scheduled}
+use Rattle.job.specs.Format.{nodeTable, scheduleTable, countTable, nodeCount, kindNumber, countByte, aOf, bOf, cOf, isEmpty, longCount, scheduleCount, placeOf, entryIn, entriesFrom, nodeIn, nodesIn, jobOf}
 use Rattle.loops.specs.Loops.{allBelow, listed}
 use Rattle.job.specs.QuestionParts.{numbersFinite, from0To1}
 use Rattle.job.specs.Questions.{allFinite, figuresFitKind, figureFits, figuresFit, kindFits, kindsFit, countFits, eachCountFits, countsFit, entryFits, scheduleFits, schedulesFit, hasLength, schedulesRight}
@@ -132,3 +132,12 @@ module _ (nodes counts schedules : List ℕ) (right : schedulesRight nodes count
 pub entry-of : (count : ℕ) (f : ℕ → Float) (n i : ℕ) → 1 ≤ n → 1 ≤ count → i ≡ min n count - 1 → entryAt (listed count f) n ≡ f i
 unfolding entryAt
 entry-of count f n i l m e = rw (length-listed count f, ← e) (getD-listed count f i zero64 (omega arith))
+
+-- a value read from the entries of a node's schedule is the record's
+pub scheduled-is :
+    {nodes counts schedules : List ℕ} {place count : ℕ} {v : Float} (job : List ℕ) (step node : ℕ) → nodes ≡ nodeTable job → counts ≡ countTable job
+    → schedules ≡ scheduleTable job → node < nodeCount nodes → place ≡ placeOf nodes counts node → count ≡ scheduleCount nodes counts node
+    → v ≡ entryAt (entriesFrom schedules place count) step → v ≡ scheduled (jobOf job) step node
+unfolding scheduled nodeIn
+scheduled-is job step node n c s l p k e =
+    (rw (k, p, s, c, n) at e) ∙ sym (ap (λ (z : ScheduledNode). entryAt (z .schedule) step) (node-is job node (rw (← n) l)))

@@ -142,9 +142,13 @@ placeOf nodes counts (suc node) = placeOf nodes counts node + scheduleCount node
 abbrev pub entryIn : List ℕ → ℕ → Float
 entryIn schedules i = f64At schedules (i * 8)
 
--- the entries of a node's schedule
+-- so many entries, from a place on
+abbrev pub entriesFrom : List ℕ → ℕ → ℕ → List Float
+entriesFrom schedules place count = listed count (λ i. entryIn schedules (place + i))
+
+-- a node's schedule: as many entries as its count says, from its place on
 abbrev pub scheduleIn : List ℕ → List ℕ → List ℕ → ℕ → List Float
-scheduleIn nodes counts schedules node = listed (scheduleCount nodes counts node) (λ i. entryIn schedules (placeOf nodes counts node + i))
+scheduleIn nodes counts schedules node = entriesFrom schedules (placeOf nodes counts node) (scheduleCount nodes counts node)
 
 unfoldable pub nodeIn : List ℕ → List ℕ → List ℕ → ℕ → ScheduledNode
 nodeIn nodes counts schedules node = record { kind = kindIn nodes node; schedule = scheduleIn nodes counts schedules node }

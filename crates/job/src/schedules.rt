@@ -6,8 +6,7 @@ ghost use mathlib.Core.Bool.{true};
 ghost use Prim.Native.Nat.{_+_, _-_, _*_, _<_, _≤_, min};
 ghost use lib.ListN.{length};
 ghost use Rattle.job.specs.Job.{entryAt};
-ghost use Rattle.job.specs.Format.{nodeCount, countByte, longCount, scheduleCount};
-ghost use Rattle.job.specs.TableEntries.{entriesFrom};
+ghost use Rattle.job.specs.Format.{nodeCount, countByte, longCount, scheduleCount, entriesFrom};
 ghost use Rattle.job.specs.Questions.{countsFit};
 ghost use Rattle.job.specs.QuestionParts.{numbersFinite};
 

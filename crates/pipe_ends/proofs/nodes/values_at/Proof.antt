@@ -12,8 +12,8 @@ use Rattle.job.specs.Job.{scheduled}
 use Rattle.job.specs.Format.{jobOf}
 use Rattle.job.specs.QuestionParts.{NodesRight}
 use Rattle.job.proofs.Places.{SumBefore, sum-before-none, sum-before-more}
-use Rattle.job.proofs.NodeLaws.{count-least, entries-within, entries-finite}
-use Rattle.job.proofs.Accepted.{nodes-right, scheduled-is}
+use Rattle.job.proofs.NodeLaws.{count-least, entries-within, entries-finite, scheduled-is}
+use Rattle.job.proofs.Accepted.{nodes-right}
 use Rattle.pipe_ends.proofs.Acceptance.{pairs-accepted, few-nodes}
 use Rattle.pipe_ends.proofs.nodes.values_at.Statement.{statement}
 use Rattle.pipe_ends.proofs.nodes.values_at.Tie as tie
