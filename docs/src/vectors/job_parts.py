@@ -17,6 +17,7 @@ class Job:
     def __init__(self, pipes, nodes, schedules, steps=1):
         self.steps = steps
         self.count = None  # the count of pairs, where it is not that of the tables
+        self.table5 = None  # table 5, where it is not that of the schedules
         self.table6 = None  # table 6, where it has a pair
         self.pipes, self.nodes, self.schedules = pipes, nodes, schedules
         reaches = sum(n for _, _, n, _ in pipes)
@@ -36,6 +37,9 @@ class Job:
     def long(self):
         return self.changed(table6=b"".join(struct.pack("<H", len(v)) for v in self.schedules))
 
+    def entries(self):
+        return b"".join(f64(x) for v in self.schedules for x in v)
+
     def tables(self):
         width = 0 if self.table6 else 255
         bodies = [
@@ -44,7 +48,7 @@ class Job:
                      for (k, a, b, c, m), v in zip(self.nodes, self.schedules)),
             b"".join(f64(r) for r in self.friction),
             b"".join(f64(h) + f64(q) + f64(z) for h, q, z in self.initial),
-            b"".join(f64(x) for v in self.schedules for x in v),
+            self.entries() if self.table5 is None else self.table5,
         ] + ([] if self.table6 is None else [self.table6])
         return [body + odd for body, odd in zip(bodies, self.odd)]
 

@@ -97,6 +97,18 @@ const LOW_BYTES: &str = "refused 15: table 5 as long as the low bytes of the cou
 const LATE_NOT_FINITE: &str = "refused 15: an entry past the 255th not finite";
 const LATE_OUT_OF_RANGE: &str = "refused 15: an entry past the 255th out of its range";
 
+/// Refused 15 where table 5 ends early: in which node's schedule.
+const ENDS_BY_BYTES: ByPlace = [
+    "refused 15: counted by bytes, table 5 ends in the first schedule",
+    "refused 15: counted by bytes, table 5 ends in the last schedule",
+    "refused 15: counted by bytes, table 5 ends in a schedule between",
+];
+const ENDS_BY_TABLE_6: ByPlace = [
+    "refused 15: counted by table 6, table 5 ends in the first schedule",
+    "refused 15: counted by table 6, table 5 ends in the last schedule",
+    "refused 15: counted by table 6, table 5 ends in a schedule between",
+];
+
 /// Every way that must be reached.
 pub fn all() -> Vec<&'static str> {
     let lengths = [ONE_BYTE, BYTE_SHORT, BYTE_LONG, NODE_SHORT, NODE_LONG, BYTE_WIDE];
@@ -112,6 +124,7 @@ pub fn all() -> Vec<&'static str> {
     all.extend([COUNT_0, BYTE_NOT_0].concat());
     all.extend([TEN_AND_FIFTY, FIFTY_AND_ELEVEN]);
     all.extend(entries);
+    all.extend([ENDS_BY_BYTES, ENDS_BY_TABLE_6].concat());
     all
 }
 
@@ -122,7 +135,7 @@ pub fn count(tally: &mut Tally, job: &[u8], number: u64) {
         3 => to_3(job),
         10 => to_10(tally, job),
         50 => to_50(job),
-        15 => to_15(job),
+        15 => to_15(tally, job),
         _ => None,
     };
     if let Some(way) = way {
@@ -220,17 +233,22 @@ fn to_50(job: &[u8]) -> Option<&'static str> {
     lengths.iter().find(|&&(other, _)| other == length).map(|&(_, way)| way)
 }
 
-fn to_15(job: &[u8]) -> Option<&'static str> {
+fn to_15(tally: &mut Tally, job: &[u8]) -> Option<&'static str> {
     let [_, node_table, _, _, schedules, count_table] = tables(job);
+    let nodes = kinds_and_bytes(node_table);
+    if count_table.is_empty() {
+        let counts: Vec<u16> = nodes.iter().map(|&(_, byte)| byte.into()).collect();
+        count_early_end(tally, ENDS_BY_BYTES, &counts, schedules.len());
+        return None;
+    }
     let counts: Vec<u16> = count_table.chunks_exact(2).map(|count| u16_at(count, 0)).collect();
+    count_early_end(tally, ENDS_BY_TABLE_6, &counts, schedules.len());
     let bytes_by = |read: fn(u16) -> u16| -> usize {
         counts.iter().map(|&count| 8 * usize::from(read(count))).sum()
     };
     let (length, right) = (schedules.len(), bytes_by(|count| count));
-    if count_table.is_empty() {
-        return None;
-    } else if length == right {
-        return late_entry(&kinds_and_bytes(node_table), &counts, &all_f64(schedules));
+    if length == right {
+        return late_entry(&nodes, &counts, &all_f64(schedules));
     }
     let lengths = [
         (right - 8, ENTRY_SHORT),
@@ -239,6 +257,18 @@ fn to_15(job: &[u8]) -> Option<&'static str> {
         (bytes_by(|count| count % 256), LOW_BYTES),
     ];
     lengths.iter().find(|&&(other, _)| other == length).map(|&(_, way)| way)
+}
+
+/// Counts the schedule in which a table 5 of so many bytes ends, where it ends early.
+fn count_early_end(tally: &mut Tally, ways: ByPlace, counts: &[u16], length: usize) {
+    let mut end = 0;
+    let node = counts.iter().position(|&count| {
+        end += 8 * usize::from(count);
+        end > length
+    });
+    if let Some(node) = node {
+        tally.count(at_place(ways, node, counts.len()), 1);
+    }
 }
 
 /// What is wrong with the first entry that is not admitted, where it is past the 255th of its schedule.

@@ -158,15 +158,21 @@ fn bad_section(random: &mut Random, parts: &mut Parts) {
     }
 }
 
-/// Question 15: an entry not finite or out of its kind's range, or a table of another length.
+/// Question 15: an entry not finite or out of its kind's range, or a table of another length, which may
+/// end in any schedule.
 fn bad_entry(random: &mut Random, parts: &mut Parts) {
-    let way = random.below(3);
+    let way = random.below(4);
     if way == 0 && !parts.byte_counts() && counts::misread(random, parts) {
         return;
     }
     if way == 1 {
         let bad = random.pick(&NOT_FINITE);
         return put_or_resize(random, &mut parts.tables[4], bad);
+    }
+    if way == 2 {
+        let table = &mut parts.tables[4];
+        let (any, right) = (random.below(table.len()), table.len());
+        return table.resize(random.pick(&[any, any, right - 8, right + 8]), 0);
     }
     let counts = parts.counts();
     let long = counts.iter().position(|&count| count > 255).filter(|_| random.once_in(2));
