@@ -1,4 +1,4 @@
--- Two jobs of real bytes: what they are read into, by computation, and that they are accepted. Assumes nothing.
+-- Two jobs of real bytes: where schedules begin, by bytes and by a table 6; what the jobs are read into, by computation, and that they are accepted. Assumes nothing.
 use mathlib.Core.Path.{_≡_, refl}
 use mathlib.Core.List.{List, [], _∷_}
 use Prim.Native.Nat.{ℕ}

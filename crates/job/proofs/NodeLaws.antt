@@ -19,7 +19,7 @@ use Rattle.job.specs.QuestionParts.{numbersFinite, from0To1}
 use Rattle.job.specs.Questions.{allFinite, figuresFitKind, figureFits, figuresFit, kindFits, kindsFit, countFits, eachCountFits, countsFit, entryFits, scheduleFits, schedulesFit, hasLength, schedulesRight}
 use Rattle.loops.proofs.Tests.{both, half-fails, half-holds}
 use Rattle.loops.proofs.Listed.{length-listed, getD-listed}
-use Rattle.job.proofs.Places.{place-more, place-rises}
+use Rattle.job.proofs.Places.{ends-before}
 
 -- the figures of a node whose figures are finite
 pub record FiniteFigures (nodes : List ℕ) (node : ℕ) : Type 0 where
@@ -106,8 +106,8 @@ module _ (schedules : List ℕ) (kind place count : ℕ) where
     pub as-ranged : {t : Bool} → 2 ≤ kind → t ≡ ranged → t ≡ fitting
     as-ranged l e = e ∙ half-holds _ _ (halves ∙ rw (le-ltb kind 2 l)) h
 
-  pub finite-fitting : fitting ≡ true → numbersFinite schedules place count ≡ true
-  finite-fitting h = both (numbersFinite schedules place count) _ (sym halves ∙ h) .0
+  fitting-finite : fitting ≡ true → numbersFinite schedules place count ≡ true
+  fitting-finite h = both (numbersFinite schedules place count) _ (sym halves ∙ h) .0
 
 module _ (nodes counts schedules : List ℕ) (right : schedulesRight nodes counts schedules ≡ true) where
   size-right : length schedules ≡ placeOf nodes counts (nodeCount nodes) * 8
@@ -121,12 +121,12 @@ module _ (nodes counts schedules : List ℕ) (right : schedulesRight nodes count
   -- of a node's own entries, from the place and the count in hand
   module _ {node place count : ℕ} (l : node < nodeCount nodes) (p : place ≡ placeOf nodes counts node) (k : count ≡ scheduleCount nodes counts node) where
     pub entries-within : (place + count) * 8 ≤ length schedules
-    entries-within = omega (arith, size-right, place-rises nodes counts (node + 1) (nodeCount nodes) (omega arith), place-more nodes counts node, p, k)
+    entries-within = omega (arith, size-right, ends-before nodes counts (nodeCount nodes) l p k)
 
     pub entries-finite : numbersFinite schedules place count ≡ true
     unfolding schedulesFit scheduleFits
     entries-finite =
-        rw (p, k) (finite-fitting _ (kindNumber nodes node) _ _ (all-at (scheduleFits nodes counts schedules) node (nodeCount nodes) fits l))
+        rw (p, k) (fitting-finite _ (kindNumber nodes node) _ _ (all-at (scheduleFits nodes counts schedules) node (nodeCount nodes) fits l))
 
 -- the value at step n: entry n - 1, counted from 0, and the last after it
 pub entry-of : (count : ℕ) (f : ℕ → Float) (n i : ℕ) → 1 ≤ n → 1 ≤ count → i ≡ min n count - 1 → entryAt (listed count f) n ≡ f i

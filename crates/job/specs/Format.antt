@@ -134,7 +134,7 @@ scheduleCount nodes counts node = cond (isEmpty counts) (countByte nodes node) (
 
 -- ---- "5. f64 schedules, in node order, end to end."
 
--- the place of a node's schedule: the sum of the counts before it
+-- the place of a node's schedule, in entries: the sum of the counts before it
 unfoldable pub placeOf : List ℕ → List ℕ → ℕ → ℕ
 placeOf nodes counts zero = 0
 placeOf nodes counts (suc node) = placeOf nodes counts node + scheduleCount nodes counts node

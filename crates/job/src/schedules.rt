@@ -38,7 +38,7 @@ pub fn schedule_count(nodes: &[u8], counts: &[u8], node: usize) -> usize
     }
 }
 
-// The entry of a schedule that is read at a step, counted from 1, of `count` entries, counted from 0.
+// The number, from 0, of the entry that is read at a step, from 1, in a schedule of `count` entries.
 fn entry_index(count: usize, step: usize) -> usize
     requires { ⌜ (1 ≤ count) × (1 ≤ step) ⌝ }
     ensures { λ r. ⌜ r ≡ min step count - 1 ⌝ }

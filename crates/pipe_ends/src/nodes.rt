@@ -8,7 +8,7 @@ ghost use Rattle.pipe_ends.specs.FromRows.{overNodes, headBy};
 use wave::Sums;
 
 // v of each node at a step, counted from 1. The place of a node's schedule, the sum of the counts before it, is carried
-// along. This is the one place that a step has its values from.
+// along. A step has its values from here alone.
 pub fn values_at(job: &[u8], step: usize) -> [f64; 32]
     requires { ⌜ (Accepted (now job)) × (1 ≤ step) ⌝ }
     ensures { λ r. ⌜ r ≡ overNodes (now (job .entry)) (scheduled (jobOf (now (job .entry))) step) ⌝ }
@@ -16,14 +16,14 @@ pub fn values_at(job: &[u8], step: usize) -> [f64; 32]
     let nodes = job::tables::nodes(job);
     let schedules = job::tables::schedules(job);
     let counts = job::tables::counts(job);
-    let count = nodes.len() / 26;
+    let n = nodes.len() / 26;
     let mut values = [0.0f64; 32];
     let mut place = 0;
     let mut node = 0;
-    while node < count {
-        let entries = job::schedules::schedule_count(nodes, counts, node);
-        values[node] = job::schedules::value_at(schedules, place, entries, step);
-        place = place + entries;
+    while node < n {
+        let count = job::schedules::schedule_count(nodes, counts, node);
+        values[node] = job::schedules::value_at(schedules, place, count, step);
+        place = place + count;
         node += 1;
     }
     values
@@ -35,10 +35,10 @@ pub(super) fn node_heads(job: &[u8], values: [f64; 32], sums: [Sums; 32]) -> [f6
     ensures { λ r. ⌜ r ≡ overNodes (now (job .entry)) (headBy (now (job .entry)) values sums) ⌝ }
 {
     let nodes = job::tables::nodes(job);
-    let count = nodes.len() / 26;
+    let n = nodes.len() / 26;
     let mut heads = [0.0f64; 32];
     let mut node = 0;
-    while node < count {
+    while node < n {
         let with_value = job::nodes::node_with(nodes, node, values[node]);
         heads[node] = wave::node_head(with_value, sums[node]);
         node += 1;

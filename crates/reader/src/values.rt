@@ -1,7 +1,7 @@
 // Questions 13 to 15: the tables of f64 numbers.
 ghost use mathlib.Core.Path.{_≡_};
 ghost use mathlib.Core.Bool.{true, cond};
-ghost use Prim.Native.Nat.{_+_, _*_, _<_, _≤_};
+ghost use Prim.Native.Nat.{_+_, _*_, _≤_};
 ghost use lib.ListN.{length};
 ghost use lib.Dec.{eqb};
 ghost use Rattle.loops.specs.Loops.{allBelow};
@@ -136,8 +136,8 @@ fn schedule_fits(schedules: &[u8], kind: usize, place: usize, count: usize) -> b
     out_of_range(schedules, place, count) == 0
 }
 
-// 15. The place of a node's schedule, the sum of the counts before it, is carried along. Where a schedule ends past
-// the table, the table is too short for all of them.
+// 15. The place of a node's schedule, the sum of the counts before it, is carried along. Entries are read only where
+// their schedule ends within the table; where it does not, the table is too short to hold all schedules.
 fn schedules_right(nodes: &[u8], counts: &[u8], schedules: &[u8]) -> bool
     requires { ⌜ (length (now nodes) ≤ 32768) × (countsFit (now nodes) (now counts) ≡ true) ⌝ }
     ensures { λ r. ⌜ r ≡ schedulesRight (now (nodes .entry)) (now (counts .entry)) (now (schedules .entry)) ⌝ }

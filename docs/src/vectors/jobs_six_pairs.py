@@ -1,4 +1,4 @@
-"""Jobs of six pairs for jobs.py: requests 3 and 5 of document 02, and where refusals begin."""
+"""Jobs of six pairs for jobs.py, request 3 of document 02, and of both forms, request 5; where refusals begin."""
 import struct
 
 from job_parts import INF, JOB_Q, KINDS, NAN, Job, chain, node, put
@@ -189,7 +189,7 @@ def entries():
 
 
 def schedule_places():
-    """In either form: a table 5 that ends early or goes on, and entries that fit at their own places only."""
+    """In either form: a table 5 that ends early or goes on, and levels and draw-offs that are no openings or speeds."""
     for form, job in [("five pairs", KINDS), ("a full table 6", LONG_KINDS)]:
         right = job.entries()
         for n in (0, 7, 8, 15, 31, 32, 47, 48, 55, 57, 64):
@@ -197,7 +197,7 @@ def schedule_places():
             yield "%s: table 5 of %d bytes for seven entries" % (form, n), other.bytes(), "refused 15"
         own = [[2.0, -3.0], [1.0, 0.5, 0.25], [0.0], [7.0, 8.0, 9.0]]
         moved = lambda schedules: job.changed(schedules=schedules, table6=job.table6 and counts(2, 3, 1, 3))
-        yield form + ": entries that fit at their own places only", moved(own).bytes(), job.held()
+        yield form + ": levels and draw-offs that are no openings or speeds", moved(own).bytes(), job.held()
         for y, v in enumerate(own):
             for i in sorted({0, len(v) - 1}):
                 bad = moved(put(own, y, put(v, i, NAN))).bytes()

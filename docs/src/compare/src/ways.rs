@@ -97,16 +97,16 @@ const LOW_BYTES: &str = "refused 15: table 5 as long as the low bytes of the cou
 const LATE_NOT_FINITE: &str = "refused 15: an entry past the 255th not finite";
 const LATE_OUT_OF_RANGE: &str = "refused 15: an entry past the 255th out of its range";
 
-/// Refused 15 where table 5 ends early: in which node's schedule.
+/// Refused 15 where table 5 ends early: the first node whose schedule is not whole in it.
 const ENDS_BY_BYTES: ByPlace = [
-    "refused 15: counted by bytes, table 5 ends in the first schedule",
-    "refused 15: counted by bytes, table 5 ends in the last schedule",
-    "refused 15: counted by bytes, table 5 ends in a schedule between",
+    "refused 15: counted by bytes, the first schedule not whole",
+    "refused 15: counted by bytes, the last schedule not whole",
+    "refused 15: counted by bytes, a schedule between not whole",
 ];
 const ENDS_BY_TABLE_6: ByPlace = [
-    "refused 15: counted by table 6, table 5 ends in the first schedule",
-    "refused 15: counted by table 6, table 5 ends in the last schedule",
-    "refused 15: counted by table 6, table 5 ends in a schedule between",
+    "refused 15: counted by table 6, the first schedule not whole",
+    "refused 15: counted by table 6, the last schedule not whole",
+    "refused 15: counted by table 6, a schedule between not whole",
 ];
 
 /// Every way that must be reached.
@@ -259,7 +259,7 @@ fn to_15(tally: &mut Tally, job: &[u8]) -> Option<&'static str> {
     lengths.iter().find(|&&(other, _)| other == length).map(|&(_, way)| way)
 }
 
-/// Counts the schedule in which a table 5 of so many bytes ends, where it ends early.
+/// Counts the first schedule that is not whole in a table 5 of so many bytes, where one is not.
 fn count_early_end(tally: &mut Tally, ways: ByPlace, counts: &[u16], length: usize) {
     let mut end = 0;
     let node = counts.iter().position(|&count| {

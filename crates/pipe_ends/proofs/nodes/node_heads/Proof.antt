@@ -19,10 +19,10 @@ use Rattle.pipe_ends.proofs.nodes.node_heads.Statement.{statement}
 use Rattle.pipe_ends.proofs.nodes.node_heads.Tie as tie
 
 abbrev Inv-loop : tie.InvT-loop
-Inv-loop job values sums nodes count heads₀ node₀ heads node = Upto (headBy job values sums) (replicate 32 zero64) 0 count node heads
+Inv-loop job values sums nodes n heads₀ node₀ heads node = Upto (headBy job values sums) (replicate 32 zero64) 0 n node heads
 
 abbrev μ-loop : tie.MeasureT-loop
-μ-loop job values sums nodes count heads₀ node₀ heads node = count - node
+μ-loop job values sums nodes n heads₀ node₀ heads node = n - node
 
 -- the function's entry
 abbrev start : tie.After-nodes Inv-loop μ-loop → tie.Start Inv-loop μ-loop

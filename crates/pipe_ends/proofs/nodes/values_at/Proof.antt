@@ -19,19 +19,22 @@ use Rattle.pipe_ends.proofs.nodes.values_at.Statement.{statement}
 use Rattle.pipe_ends.proofs.nodes.values_at.Tie as tie
 
 abbrev Inv-loop : tie.InvT-loop
-Inv-loop job step nodes schedules counts count values₀ place₀ node₀ values place node =
-    SumBefore nodes counts node place × Upto (scheduled (jobOf job) step) (replicate 32 zero64) 0 count node values
+Inv-loop job step nodes schedules counts n values₀ place₀ node₀ values place node =
+    SumBefore nodes counts node place × Upto (scheduled (jobOf job) step) (replicate 32 zero64) 0 n node values
 
 abbrev μ-loop : tie.MeasureT-loop
-μ-loop job step nodes schedules counts count values₀ place₀ node₀ values place node = count - node
+μ-loop job step nodes schedules counts n values₀ place₀ node₀ values place node = n - node
 
 -- the function's entry
 abbrev start : tie.After-counts Inv-loop μ-loop → tie.Start Inv-loop μ-loop
 start c = c .before .before .before .before
 
--- where the tables have been handed out, in a turn
+-- where the tables have been handed out, and the turn that has read an entry
 abbrev tables : tie.In-loop Inv-loop μ-loop → tie.After-counts Inv-loop μ-loop
 tables c = c .before .before
+
+abbrev turn-of : tie.After-value-at Inv-loop μ-loop → tie.In-loop Inv-loop μ-loop
+turn-of c = c .before .before
 
 -- the tables as they were handed out are those that the questions have let pass
 right :
@@ -43,10 +46,11 @@ right c = nodes-right _ (c .before .before .nodes .ensures) (c .counts .ensures)
 low : (c : tie.In-loop Inv-loop μ-loop) → c .before .loop .node < 32
 low c = omega (arith, few-nodes _ (start (tables c) .pre .0), ap length (tables c .before .before .nodes .ensures))
 
+-- It stands before the needs of the turn's calls, so that of a wrong sum the prover tells this first.
 loop-again : tie.Need-loop-again Inv-loop μ-loop
 loop-again c =
     let counted : tie.After-schedule-count Inv-loop μ-loop = c .before in
-    let turn : tie.In-loop Inv-loop μ-loop = counted .before in
+    let turn : tie.In-loop Inv-loop μ-loop = turn-of c in
     let from : tie.After-counts Inv-loop μ-loop = tables turn in
     let inv = turn .before .loop .inv in (
       sum-before-more _ _ (inv .0) (counted .schedule-count .ensures .0) (counted .schedule-count .ensures .1),
@@ -64,12 +68,12 @@ least c =
 value-at-requires : tie.Need-value-at-requires Inv-loop μ-loop
 value-at-requires c κs =
     let turn : tie.In-loop Inv-loop μ-loop = c .before in
-    let entries = right (tables turn) .entries in
+    let asked = right (tables turn) .entries in
     let sum = turn .before .loop .inv .0 .sum in (
       least c,
       start (tables turn) .pre .1,
-      entries-within _ _ _ entries (turn .loop-test .taken) sum (c .schedule-count .ensures .0),
-      entries-finite _ _ _ entries (turn .loop-test .taken) sum (c .schedule-count .ensures .0),
+      entries-within _ _ _ asked (turn .loop-test .taken) sum (c .schedule-count .ensures .0),
+      entries-finite _ _ _ asked (turn .loop-test .taken) sum (c .schedule-count .ensures .0),
     )
 
 returns : tie.Need-returns Inv-loop μ-loop
@@ -87,9 +91,9 @@ values-at-spec =
     (λ c. (sum-before-none _ _, upto-none))
     (λ c κs. (omega arith, right (tables c) .counted))
     value-at-requires
-    (λ c. omega (arith, low (c .before .before)))
-    (λ c. low (c .before .before))
-    (λ c. omega (arith, low (c .before .before), c .before .before .before .loop .inv .0 .small, c .before .schedule-count .ensures .1))
+    (λ c. omega (arith, low (turn-of c)))
+    (λ c. low (turn-of c))
+    (λ c. omega (arith, low (turn-of c), turn-of c .before .loop .inv .0 .small, c .before .schedule-count .ensures .1))
     (λ c. search needs)
     (λ c. search needs)
     loop-again

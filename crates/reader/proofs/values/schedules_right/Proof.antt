@@ -14,7 +14,7 @@ use Rattle.loops.proofs.All.{Passing, passing-none, passing-step, passing-stop,
 use Rattle.loops.proofs.Tests.{and-false}
 use Rattle.job.specs.Format.{nodeCount, scheduleCount, placeOf}
 use Rattle.job.specs.Questions.{scheduleFits, schedulesFit, schedulesRight}
-use Rattle.job.proofs.Places.{place-more, place-rises, SumBefore, sum-before-none, sum-before-more}
+use Rattle.job.proofs.Places.{ends-before, SumBefore, sum-before-none, sum-before-more}
 use borrow.Author.Needs.{needs}
 use Rattle.reader.proofs.values.schedules_right.Statement.{statement}
 use Rattle.reader.proofs.values.schedules_right.Tie as tie
@@ -26,10 +26,9 @@ module _ (nodes counts schedules : List ℕ) where
       {node place count : ℕ} → node < nodeCount nodes → place ≡ placeOf nodes counts node → count ≡ scheduleCount nodes counts node
       → length schedules < (place + count) * 8 → false ≡ schedulesRight nodes counts schedules
   unfolding schedulesRight
-  too-short {node} l p k h =
-      let more = place-more nodes counts node in
-      let rises = place-rises nodes counts (node + 1) (nodeCount nodes) (omega arith) in
-      rw (ne-eqb (length schedules) (placeOf nodes counts (nodeCount nodes) * 8) (λ e. omega (arith, more, rises)))
+  too-short l p k h =
+      let later = ends-before nodes counts (nodeCount nodes) l p k in
+      rw (ne-eqb (length schedules) (placeOf nodes counts (nodeCount nodes) * 8) (λ e. omega (arith, later)))
 
   one-no : false ≡ schedulesFit nodes counts schedules → false ≡ schedulesRight nodes counts schedules
   unfolding schedulesRight
