@@ -1,23 +1,13 @@
 // The questions put to every call that takes a job: 1 to 15, and 50 after 10.
 ghost use mathlib.Core.Path.{_≡_};
-ghost use mathlib.Core.Bool.{cond};
 ghost use Rattle.job.specs.Questions.{refusal};
 ghost use Rattle.reader.specs.Answer.{paperRead, readAnswer};
 
 mod answer;
-mod nodes;
 mod pairs;
 mod pipes;
-mod values;
 
 pub use answer::Read;
-
-// "The first no decides": the number of a question that has a no, else what the questions after it give.
-fn decide(yes: bool, number: usize, rest: usize) -> usize
-    ensures { λ r. ⌜ r ≡ cond yes rest number ⌝ }
-{
-    if yes { rest } else { number }
-}
 
 // The number of the first question with a no, or 0.
 fn first_no(job: &[u8]) -> usize
@@ -31,11 +21,11 @@ fn first_no(job: &[u8]) -> usize
     if of_pipes != 0 {
         return of_pipes;
     }
-    let of_nodes = nodes::first_no(job);
+    let of_nodes = node_questions::first_no(job);
     if of_nodes != 0 {
         return of_nodes;
     }
-    values::first_no(job)
+    value_questions::first_no(job)
 }
 
 // Questions 1 to 15, with 50: the number of the first no, or what the job holds.

@@ -9,6 +9,7 @@ use job::pairs::listing_steps;
 use job::pairs::offset_of;
 use job::pairs::pair_count;
 use job::pairs::pairs_end;
+use job::questions::decide;
 
 // The least and the greatest number of pairs that a job may have.
 const LEAST_PAIRS: usize = 5;
@@ -62,5 +63,5 @@ pub fn first_no(job: &[u8]) -> usize
     }
     let follow = tables_follow(job);
     let few_steps = listing_steps(job) <= 1000000;
-    super::decide(follow, 3, super::decide(few_steps, 4, 0))
+    decide(follow, 3, decide(few_steps, 4, 0))
 }

@@ -10,6 +10,7 @@ use job::pipes::reaches;
 use job::pipes::s_of;
 use job::pipes::section_count;
 use job::pipes::start;
+use job::questions::decide;
 
 // Is the table one of whole records, low to high of them?
 fn holds_records(t: &[u8], width: usize, low: usize, high: usize) -> bool
@@ -85,7 +86,7 @@ pub fn first_no(job: &[u8]) -> usize
     let joined = pipes_join(pipes, nodes.len() / 26);
     let few_sections = section_count(pipes) <= 512;
     let constants = constants_fit(pipes);
-    let from_8 = super::decide(few_sections, 8, super::decide(constants, 9, 0));
-    let from_6 = super::decide(nodes_whole, 6, super::decide(joined, 7, from_8));
-    super::decide(pipes_whole, 5, from_6)
+    let from_8 = decide(few_sections, 8, decide(constants, 9, 0));
+    let from_6 = decide(nodes_whole, 6, decide(joined, 7, from_8));
+    decide(pipes_whole, 5, from_6)
 }

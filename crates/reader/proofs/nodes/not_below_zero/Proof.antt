@@ -1,7 +1,0 @@
--- `reader::nodes::not_below_zero` meets its contract: the number is the one that stands there. Assumes nothing.
-use borrow.Author.Needs.{needs}
-use Rattle.reader.proofs.nodes.not_below_zero.Statement.{statement}
-use Rattle.reader.proofs.nodes.not_below_zero.Tie as tie
-
-pub not-below-zero-spec : {M : Type 1} → statement M
-not-below-zero-spec = tie.close (tie.spec (λ c κs. search needs) (λ c. cc))
