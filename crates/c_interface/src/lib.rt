@@ -8,9 +8,14 @@ ghost use Rattle.recurrence.specs.Calls.{startCall, runOnCall};
 ghost use Rattle.recurrence.specs.Slices.{before, after};
 ghost use Rattle.surge.specs.Answers.{paperAnswer};
 ghost use Rattle.listing.specs.Listing.{lineWritten, AtFront};
-ghost use Rattle.c_interface.specs.Packed.{packed, packedAnswer, packedRead};
+ghost use Rattle.setting.specs.Setting.{setValve};
+ghost use Rattle.c_interface.specs.Packed.{packed, packedAnswer, packedRead, packedSetting, coefficientLeft};
 use reader::Read;
 use surge::Answer;
+use valve_setting::Setting;
+
+// The number of an answer 'none', which the papers give no number.
+const NONE: usize = 255;
 
 // A number, a section and steps in one.
 fn pack(number: usize, section: usize, steps: u64) -> u64
@@ -81,6 +86,31 @@ pub extern "C" fn vintuqay_run_on(
         (r ≡ packedAnswer (call .answer)) × (after heads flows highest lowest spare ≡ call .rows)) ⌝ }
 {
     pack_answer(surge::run_on(job, done, count, heads, flows, highest, lowest, spare))
+}
+
+// Sets the valve of a chain for a discharge at a level. The coefficient is written where one is given.
+#[no_mangle]
+pub extern "C" fn vintuqay_set_valve(
+    job: &[u8],
+    level: f64,
+    discharge: f64,
+    heads: &mut [f64],
+    flows: &mut [f64],
+    coefficient: &mut f64,
+) -> u64
+    ensures { λ r. ⌜ (let call = setValve (now (job .entry)) level discharge (now (heads .entry)) (now (flows .entry)) in
+        (r ≡ packedSetting (call .answer)) × (now (heads .exit) ≡ call .heads) × (now (flows .exit) ≡ call .flows)
+        × (now (coefficient .exit) ≡ coefficientLeft (call .answer) (now (coefficient .entry)))) ⌝ }
+{
+    let setting = valve_setting::set_valve(job, level, discharge, heads, flows);
+    match setting {
+        Setting::Refused(n) => pack(n, 0, 0),
+        Setting::Nothing => pack(NONE, 0, 0),
+        Setting::Coefficient(a) => {
+            *coefficient = a;
+            pack(0, 0, 0)
+        }
+    }
 }
 
 // The line of a section at the front of `out`, as the count of its bytes; 0 for question 24's no.

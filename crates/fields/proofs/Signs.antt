@@ -1,7 +1,7 @@
 -- What `round` gives has the sign that it was given: neither `odd` nor an infinity changes it. So a product and a quotient of two values of one sign have
 -- their sign clear or are a NaN, and so a sum of two whose signs are clear; and no such value is below zero. Assumes nothing.
-use mathlib.Core.Path.{_≡_, refl, sym, subst, _∙_}
-use mathlib.Core.Bool.{Bool, true, false, cond, true≢false}
+use mathlib.Core.Path.{_≡_, refl, sym, ap, subst, _∙_}
+use mathlib.Core.Bool.{Bool, true, false, not, cond, true≢false}
 use Prim.Native.Nat.{ℕ, zero, suc, _+_, _*_, _^_, zero-le}
 use native.Mathlib.Nat.{zero-mul}
 use borrow.Author.Tests.{le-ltb}
@@ -110,3 +110,19 @@ not-below-zero nan h = refl
 not-below-zero (inf s) h = h
 not-below-zero (fin true m e) h = absurd (true≢false h)
 not-below-zero (fin false m e) h = rw (zero-mul (down e)) (le-ltb (m * up e * 1) 0 zero-le)
+
+-- ---- against the other sign
+
+-- what has its sign clear is not below what has its sign set
+pub not-under : (x y : Float) → Signed false x → Signed true y → lt x y ≡ false
+unfolding lt
+not-under nan y p q = refl
+not-under (inf true) y p q = absurd (true≢false p)
+not-under (inf false) nan p q = refl
+not-under (inf false) (inf t) p q = refl
+not-under (inf false) (fin t n d) p q = refl
+not-under (fin true m e) y p q = absurd (true≢false p)
+not-under (fin false m e) nan p q = refl
+not-under (fin false m e) (inf t) p q = ap not q
+not-under (fin false m e) (fin true n d) p q = refl
+not-under (fin false m e) (fin false n d) p q = absurd (true≢false (sym q))

@@ -2,6 +2,5 @@ pub mod CutRows
 pub mod CommitInPlace
 pub mod Parts
 pub mod RecurrenceTies
-pub mod Rounding
 pub mod NoDivision
 pub mod QuickLook

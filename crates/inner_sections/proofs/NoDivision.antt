@@ -2,46 +2,26 @@
 -- order, and it leaves the floor and d as they are. So too with a great number in place of the floor, which says that d over w is finite. Assumes nothing.
 use mathlib.Core.Path.{_≡_, refl, sym, ap, _∙_}
 use mathlib.Core.Bool.{Bool, true, false, true≢false}
-use Prim.Native.Nat.{ℕ, zero, suc, _*_, _≤_, _<_}
+use Prim.Native.Nat.{ℕ, _*_, _≤_, _<_}
 use native.Mathlib.Nat.{le-trans, le-of-eq, le-of-lt, mul-one, mul-comm, mul-assoc, mul-left-comm, mul-pos, mul-le-mul-left}
 use native.Mathlib.Omega.{arith}
 use borrow.Author.Tests.{ne-eqb}
 use lib.IntN.{ℤ, pos}
 use lib.Dec.{T, ltb→lt}
 use lib.Ieee.{Float, nan, inf, fin, Format, up, down, round, neg, fits, lt, add, mul, div}
-use lib.Ieee.Fits.{up-pos, down-pos}
+use lib.Ieee.Fits.{up-pos, down-pos, neg-fits}
 use lib.Ieee.Scale.{finite}
 use lib.Ieee.Positive.{positive}
-use Rattle.fields.proofs.Signs.{Signed, round-sign}
-use Rattle.inner_sections.proofs.Rounding.{round-neg, at-least, at-most, less, more}
+use Rattle.fields.proofs.Signs.{Signed, round-sign, not-under}
+use Rattle.fields.proofs.Rounding.{round-neg, lt-neg, at-least, at-most, less, more}
 
 -- ---- signs
-
-fits-clear : (f : Format) (s : Bool) (m : ℕ) (e : ℤ) → T (fits f (fin s m e)) → T (fits f (fin false m e))
-unfolding fits
-fits-clear f s zero e t = t
-fits-clear f s (suc m) e t = t
-
-lt-neg : (x : Float) (p : ℕ) (g : ℤ) → lt (neg x) (fin true p g) ≡ lt (fin false p g) x
-unfolding lt neg
-lt-neg nan p g = refl
-lt-neg (inf s) p g = refl
-lt-neg (fin true a b) p g = refl
-lt-neg (fin false a b) p g = refl
 
 finite-neg : (x : Float) → finite (neg x) ≡ finite x
 unfolding neg
 finite-neg nan = refl
 finite-neg (inf s) = refl
 finite-neg (fin s m e) = refl
-
--- what has its sign clear is not below what has its sign set
-not-under : (x : Float) (p : ℕ) (g : ℤ) → Signed false x → lt x (fin true p g) ≡ false
-unfolding lt
-not-under nan p g s = refl
-not-under (inf t) p g s = s
-not-under (fin true a b) p g s = absurd (true≢false s)
-not-under (fin false a b) p g s = refl
 
 -- what a finite value is not below is finite
 bounded : (x : Float) (m : ℕ) (e : ℤ) → Signed false x → lt (fin false m e) x ≡ false → finite x ≡ true
@@ -113,21 +93,26 @@ module _ (f : Format) (n : ℕ) (k : ℤ) (above-zero : 0 < n) where
   held : (s t : Bool) (m : ℕ) (e : ℤ) (p : ℕ) (g : ℤ) (c : ℕ) (h : ℤ)
       → T (fits f (fin s m e)) → T (fits f (fin t p g)) → T (fits f (fin false c h))
       → lt (mul f (fin s m e) w) (fin t p g) ≡ true → lt (fin t p g) (mul f (fin false c h) w) ≡ true → Held (fin s m e) (fin t p g)
+  unfolding neg
   held false false m e p g c h a b l x y =
       rw (quotient false p g) (
         bounded (over m e a p g b) c h (round-sign f false (p * up g * K) (N * down g)) (from-above c h l p g b (rw (← product false c h) y)),
         from-below m e a p g b (rw (← product false m e) x),
       )
   held false true m e p g c h a b l x y =
-      absurd (true≢false (sym x ∙ ap (λ z. lt z (fin true p g)) (product false m e) ∙ not-under (round f false (m * up e * N) (down e * K)) p g (round-sign f false (m * up e * N) (down e * K))))
+      let q = round f false (m * up e * N) (down e * K) in
+      let n = not-under q (fin true p g) (round-sign f false (m * up e * N) (down e * K)) refl in
+      absurd (true≢false (sym x ∙ ap (λ z. lt z (fin true p g)) (product false m e) ∙ n))
   held true false m e p g c h a b l x y =
+      let r = over m e (neg-fits f (fin true m e) a) p g b in
+      let r-sign = round-sign f false (p * up g * K) (N * down g) in
       rw (quotient false p g) (
-        bounded (over m e (fits-clear f true m e a) p g b) c h (round-sign f false (p * up g * K) (N * down g)) (from-above c h l p g b (rw (← product false c h) y)),
-        not-under (round f false (p * up g * K) (N * down g)) m e (round-sign f false (p * up g * K) (N * down g)),
+        bounded r c h r-sign (from-above c h l p g b (rw (← product false c h) y)),
+        not-under r (fin true m e) r-sign refl,
       )
   held true true m e p g c h a b l x y =
-      let F-fits = fits-clear f true m e a in
-      let d-fits = fits-clear f true p g b in
+      let F-fits = neg-fits f (fin true m e) a in
+      let d-fits = neg-fits f (fin true p g) b in
       let r = round f false (p * up g * K) (N * down g) in
       let q = round f false (m * up e * N) (down e * K) in
       let under : lt (fin false p g) q ≡ true = sym (lt-neg q p g) ∙ ap (λ z. lt z (fin true p g)) (sym (round-neg f (m * up e * N) (down e * K)) ∙ sym (product true m e)) ∙ x in
@@ -201,10 +186,10 @@ module _ (f : Format) where
     half-finite true = ap finite (round-neg f (p * up g * 1) (2 * down g)) ∙ finite-neg (half false) ∙ half-clear
 
   pub halved : (x : Float) → finite x ≡ true → T (fits f x) → finite (div f x (fin false 1 (pos 1))) ≡ true
-  unfolding div
+  unfolding div neg
   halved nan a t = a
   halved (inf s) a t = absurd (true≢false (sym a))
-  halved (fin true p g) a t = half-finite p g (fits-clear f true p g t) true
+  halved (fin true p g) a t = half-finite p g (neg-fits f (fin true p g) t) true
   halved (fin false p g) a t = half-finite p g t false
 
   -- a sum is finite only where both numbers are

@@ -17,7 +17,7 @@ use Rattle.job.specs.Walk.{WalkedTo}
 -- ---- the entry of a list at a place is the first of what is left there
 
 module _ {A : Type 0} where
-  left-from : (l : List A) (k : ℕ) {a : A} → getElem? l k ≡ some a → drop k l ≡ a ∷ drop (k + 1) l
+  pub left-from : (l : List A) (k : ℕ) {a : A} → getElem? l k ≡ some a → drop k l ≡ a ∷ drop (k + 1) l
   left-from [] k e = cc
   left-from (b ∷ l) zero e = cc
   left-from (b ∷ l) (suc k) e = rw (add-one (suc k)) (rw (add-one k) at (left-from l k e))

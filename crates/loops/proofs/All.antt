@@ -1,10 +1,10 @@
 -- A loop that asks a test of 0, 1, .., and stops at the first that fails it: whether `p` holds of every number below n.
 -- In a loop:  all-none, all-more   what has passed so far;  all-stop   the answer where one fails
--- Of the answer:  all-at, all-of;  all-both   of two tests;  all-cong   of tests that agree;  all-join   of two ranges, one after the other
+-- Of the answer:  all-at, all-of, all-no;  all-both   of two tests;  all-cong   of tests that agree;  all-join   of two ranges, one after the other
 -- Assumes nothing.
 use mathlib.Core.Path.{_≡_, refl, sym, ap₂}
 use mathlib.Core.Logic.{⊎-elim}
-use mathlib.Core.Bool.{Bool, true, false, not, _&&_, and-true, and-assoc}
+use mathlib.Core.Bool.{Bool, true, false, not, _&&_, and-true, and-assoc, true≢false}
 use Prim.Native.Nat.{ℕ, zero, suc, _+_, _<_, _≤_}
 use native.Mathlib.Nat.{add-zero, add-suc, le-of-suc-le-suc, not-suc-le-zero, eq-or-lt-of-le}
 use native.Mathlib.Numerals.{add-one}
@@ -53,6 +53,17 @@ module _ (p : ℕ → Bool) where
   all-at i zero h l = absurd (not-suc-le-zero l)
   all-at i (suc n) h l =
       ⊎-elim (λ q. rw q (both (allBelow p n) (p n) h .1)) (λ o. all-at i n (both (allBelow p n) (p n) h .0) o) (eq-or-lt-of-le (le-of-suc-le-suc l))
+
+  -- where not all pass, one that fails
+  pub all-no : (n : ℕ) → allBelow p n ≡ false → (i : ℕ) × ((i < n) × (p i ≡ false))
+  unfolding allBelow
+  all-no zero h = absurd (true≢false h)
+  all-no (suc n) h = go (allBelow p n) refl (all-no n) h
+    where
+      go : (a : Bool) → allBelow p n ≡ a → (allBelow p n ≡ false → (i : ℕ) × ((i < n) × (p i ≡ false))) → a && p n ≡ false
+          → (i : ℕ) × ((i < suc n) × (p i ≡ false))
+      go true e below f = (n, (omega arith, f))
+      go false e below f = let one = below e in (one .0, (omega (arith, one .1 .0), one .1 .1))
 
   pub all-of : (n : ℕ) → ((i : ℕ) → i < n → p i ≡ true) → allBelow p n ≡ true
   unfolding allBelow

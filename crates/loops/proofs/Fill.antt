@@ -4,8 +4,9 @@
 -- Of the result:  length-fill; fill-in, what stands in the range; fill-below, fill-above and drop-fill, what stands outside it; take-filled, the range as a list.
 -- Of several fills:  fill-cong   the same entries, the same list;  fill-join   one after the other is one;  fill-front   the first entry, and the rest;
 --                    set-fill   a store below the range;  fill-part   a part filled and put back is the whole filled from there
+--                    filled-more   up to a place, and then more;  filled-whole   the whole list
 -- Assumes nothing.
-use mathlib.Core.Path.{_≡_, refl, sym, _∙_, ap}
+use mathlib.Core.Path.{_≡_, refl, sym, _∙_, ap, ap₂}
 use mathlib.Core.Logic.{⊎-elim}
 use mathlib.Core.List.{List, [], _∷_, _++_}
 use Prim.Native.Nat.{ℕ, zero, suc, _+_, _-_, _<_, _≤_}
@@ -133,3 +134,13 @@ pub take-filled : {A : Type 0} (d : A) (n : ℕ) (g : ℕ → A) (l : List A) �
 take-filled d n g l h =
     take-listed d n (fill g l 0 n) (omega (arith, length-fill g l 0 n))
     ∙ listed-cong n _ g (λ s b. rw (zero-add s) at (fill-in g l 0 d n s (omega arith) b))
+
+-- a list filled from its first entry on, as a list
+pub filled-whole : {A : Type 0} (d : A) (f : ℕ → A) (l : List A) (n : ℕ) → n ≤ length l → fill f l 0 n ≡ listed n f ++ drop n l
+filled-whole d f l n h = sym (take-append-drop n (fill f l 0 n)) ∙ ap₂ _++_ (take-filled d n f l h) (drop-fill f l 0 n n (omega arith))
+
+-- a list filled up to s, and then n entries more
+pub filled-more :
+    {A : Type 0} (f : ℕ → A) (l : List A) (s n : ℕ) {from : ℕ} {old new : List A} → from ≡ s → old ≡ fill f l 0 s → new ≡ fill (λ i. f (s + i)) old from n
+    → new ≡ fill f l 0 (s + n)
+filled-more f l s n b e d = d ∙ rw (b, e) (rw (zero-add s) at (fill-join f l 0 s n))

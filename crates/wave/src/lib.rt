@@ -39,7 +39,7 @@ pub enum Discharge {
 // ---- the wave equations
 
 // |x|
-fn magnitude(x: f64) -> f64
+pub fn magnitude(x: f64) -> f64
     ensures { λ r. ⌜ r ≡ wave.magnitude x ⌝ }
 {
     if x < 0.0 { -x } else { x }

@@ -1,6 +1,6 @@
 /* Starts job Q of document 01, runs it on to step 5 one step a call, and prints its heads after each
  * step, then the listing's line of each section: once with five pairs, once with six and a table of
- * schedule counts. Then come calls that are refused. */
+ * schedule counts. Then come calls that are refused, and the valve set for a discharge. */
 #include "vintuqay.h"
 #include <stdio.h>
 #include <string.h>
@@ -85,6 +85,12 @@ static const char *said(uint64_t answer) {
         return "a slice is too short";
     case VINTUQAY_STEP_LIMIT:
         return "too many steps";
+    case VINTUQAY_CHAIN:
+        return "no chain, or a number that is not finite";
+    case VINTUQAY_ROW_COUNT:
+        return "a row is too short";
+    case VINTUQAY_NONE:
+        return "no coefficient";
     default:
         return "something else";
     }
@@ -127,6 +133,20 @@ static void read_with(const char *what, size_t at, uint8_t byte) {
     job[at] = old;
 }
 
+/* The valve of job Q set for a discharge, with that many flows lent; a is -1 before. */
+static void set_valve(double level, double discharge, size_t flows) {
+    double a = -1;
+    uint64_t answer = vintuqay_set_valve(job, used, level, discharge, h, SECTIONS, q, flows, &a);
+    printf("level %g, discharge %g: %u, %s, a = %g, heads", level, discharge, vintuqay_number(answer),
+           said(answer), a);
+    for (int section = 0; section < SECTIONS; section++)
+        printf(" %g", h[section]);
+    printf(", flows");
+    for (int section = 0; section < SECTIONS; section++)
+        printf(" %g", q[section]);
+    printf("\n");
+}
+
 int main(void) {
     put_job_q(5);
     run_job();
@@ -145,5 +165,10 @@ int main(void) {
                              SECTIONS, spare, SPARE);
     printf("%d steps more: %u, %s\n", VINTUQAY_STEPS, vintuqay_number(answer), said(answer));
     printf("roots: %g %a\n", vintuqay_root(144), vintuqay_root(2));
+    set_valve(10, 4, SECTIONS);
+    set_valve(15, 6, SECTIONS);
+    set_valve(6, 4, SECTIONS);
+    set_valve(10, 1.0 / 0.0, SECTIONS);
+    set_valve(10, 4, SECTIONS - 1);
     return 0;
 }

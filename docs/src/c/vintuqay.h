@@ -15,9 +15,9 @@
  * at head b: it lets water out, and nothing back where the head of the main falls below b (B - T*b not
  * above zero; docs/MANUAL.md, 6). Since 1.2 the root is the double nearest the exact root; before, it
  * was cut down. Since 1.3 a job may have six pairs, table 6 with a 16-bit schedule count per node
- * (docs/MANUAL.md, 3); jobs of five pairs read as they did. */
+ * (docs/MANUAL.md, 3); jobs of five pairs read as they did. Since 1.4 vintuqay_set_valve. */
 #define VINTUQAY_VERSION_MAJOR 1
-#define VINTUQAY_VERSION_MINOR 3
+#define VINTUQAY_VERSION_MINOR 4
 
 #ifdef __cplusplus
 extern "C" {
@@ -64,13 +64,21 @@ enum vintuqay_answer {
     VINTUQAY_ROOT_ARGUMENT = 23, /* is the argument finite and not below zero? */
     VINTUQAY_LINE_ROOM = 24,     /* is the section below 512 and the slice at least 72 bytes long? */
 
+    /* questions to vintuqay_set_valve */
+    VINTUQAY_CHAIN = 51,    /* is the layout a chain, and are the level and the discharge finite? */
+    VINTUQAY_ROW_COUNT = 52, /* do both rows hold the section count? */
+
     /* stops */
     VINTUQAY_NOT_FINITE = 40, /* a head or flow is not finite */
-    VINTUQAY_PARTED = 41      /* a head is below its floor */
+    VINTUQAY_PARTED = 41,     /* a head is below its floor */
+
+    /* of vintuqay_set_valve: every question has a yes, and there is no coefficient */
+    VINTUQAY_NONE = 255
 };
 
 /* An answer is one number. Its parts:
- *   number   one of enum vintuqay_answer: 0, or that of the question that got a no, or of the stop.
+ *   number   one of enum vintuqay_answer: 0, or that of the question that got a no, or of the stop;
+ *            of vintuqay_set_valve also VINTUQAY_NONE.
  *   section  of a stop; of vintuqay_read, the section count.
  *   steps    the steps done in all; of vintuqay_read, the steps for the listing.
  * A no gives the number alone, and then nothing has been written.
@@ -118,6 +126,27 @@ uint64_t vintuqay_run_on(
     double *highest, size_t highest_length,
     double *lowest, size_t lowest_length,
     double *spare, size_t spare_length);
+
+/* Sets the valve of a chain for a discharge: pipe i runs from node i to node i + 1, node 0 is a
+ * reservoir, the last node a valve, and every other node a junction whose scheduled values are all
+ * zero, of either sign. Questions 1 to 15 with 50, then 51, then 52. Takes the head `level` at section
+ * 0, and from section to section along a reach H - ((R*Q)*|Q|)/S with Q = `discharge`; across a node
+ * the head stays. The coefficient is Q / root(H - b), with the last head H and the valve's b.
+ * The answer's number is
+ *   0                where there is one: *coefficient is it, heads holds the head of each section and
+ *                    flows the discharge, up to the section count; entries past it are untouched;
+ *   VINTUQAY_NONE    where the discharge is not above zero, a head is below its floor, H is not above
+ *                    b, or any head, H - b or the coefficient is not finite;
+ *   51, 52, or that of another question that got a no.
+ * With any answer but 0 heads, flows and *coefficient keep what they held. The level and the discharge
+ * are the caller's: the job's schedules, its initial state and the valve's own coefficient have no part
+ * in it, but for the zeros of the junctions. `coefficient` points to a double; it is not null.
+ */
+uint64_t vintuqay_set_valve(
+    const uint8_t *job, size_t job_length, double level, double discharge,
+    double *heads, size_t heads_length,
+    double *flows, size_t flows_length,
+    double *coefficient);
 
 /* The line of a section, at the front of `out`: number in decimal, head, flow, maximum, minimum, each
  * as 16 lower-case hexadecimal digits, highest first, one space between two fields, and a newline.

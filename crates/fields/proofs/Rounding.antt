@@ -2,15 +2,15 @@
 use mathlib.Core.Path.{_≡_, refl, sym, ap, _∙_}
 use mathlib.Core.Bool.{Bool, true, false, _&&_, _||_, cond, true≢false}
 use Prim.Native.Nat.{ℕ, zero, suc, _+_, _*_, _^_, _≤_, _<_}
-use native.Mathlib.Nat.{le-of-eq, le-of-lt, lt-of-not-le}
+use native.Mathlib.Nat.{le-of-eq, le-of-lt, lt-of-not-le, add-comm}
 use borrow.Author.Tests.{le-ltb}
 use lib.IntN.{ℤ}
 use lib.Dec.{T, ltb, eqb, ltb→lt, eqb→eq}
 use lib.Ieee.{Float, nan, inf, fin, Format, prec, emax, low, up, down, odd, units, round, neg, fits, lt, le}
 use lib.Ieee.Fits.{down-pos, round-is}
 use lib.Ieee.Order.{round-mono, kept, drop}
 use Rattle.fields.proofs.OwnRounding.{round-own}
 use Rattle.fields.proofs.Signs.{Signed, round-sign}
 
 -- ---- with the other sign
 
@@ -28,6 +28,22 @@ round-neg f a c =
     round-is f true a c
     ∙ units-neg f (kept (prec f) (a * 2 ^ low f) c) (drop (prec f) (a * 2 ^ low f) c)
     ∙ ap neg (sym (round-is f false a c))
+
+-- the order of two values turns round with their signs
+pub lt-neg : (x : Float) (p : ℕ) (g : ℤ) → lt (neg x) (fin true p g) ≡ lt (fin false p g) x
+unfolding lt neg
+lt-neg nan p g = refl
+lt-neg (inf s) p g = refl
+lt-neg (fin true a b) p g = refl
+lt-neg (fin false a b) p g = refl
+
+pub neg-lt : (x : Float) (p : ℕ) (g : ℤ) → lt (fin true p g) (neg x) ≡ lt x (fin false p g)
+unfolding lt neg
+neg-lt nan p g = refl
+neg-lt (inf true) p g = refl
+neg-lt (inf false) p g = refl
+neg-lt (fin true a b) p g = ap (ltb 0) (add-comm (p * up g * down b) (a * up b * down g))
+neg-lt (fin false a b) p g = refl
 
 -- ---- the order of two values of which one is finite, both with the sign clear
 

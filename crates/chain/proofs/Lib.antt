@@ -1,0 +1,2 @@
+pub mod ChainFigures
+pub mod ChainLaws

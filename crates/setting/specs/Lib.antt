@@ -1,0 +1,5 @@
+pub mod Setting
+pub mod Laws
+pub mod ChainJob
+pub mod Figures
+pub mod JobFigures
