@@ -1,10 +1,11 @@
 //! The proved calculator, called through its C interface, against the reference implementation.
 //!
-//! - [`ours`]: the C interface; [`both`]: a call of both, compared in every bit.
+//! - [`ours`]: the C interface; [`both`]: a call of both, compared in every bit; [`setting`]: the same of a call to set
+//!   a valve.
 //! - [`parts`]: what is compared; [`tally`]: how many of each, and which numbers were reached.
 //! - Which cases were reached: [`cases`], of the lent slices and of long schedules; [`ways`], of the
-//!   refusals; [`outlets`], of the valves and pumps; [`cut_down`]: the root as it was, to count where
-//!   it differs.
+//!   refusals; [`outlets`], of the valves and pumps; [`set_cases`], of calls to set a valve;
+//!   [`cut_down`]: the root as it was, to count where it differs.
 //! - [`distance`]: how far each section is from a node, for demand 3.
 
 pub mod both;
@@ -14,5 +15,7 @@ pub mod distance;
 pub mod ours;
 pub mod outlets;
 pub mod parts;
+pub mod set_cases;
+pub mod setting;
 pub mod tally;
 pub mod ways;

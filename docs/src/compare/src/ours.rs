@@ -35,6 +35,17 @@ extern "C" {
         spare: *mut f64,
         spare_length: usize,
     ) -> u64;
+    fn vintuqay_set_valve(
+        job: *const u8,
+        job_length: usize,
+        level: f64,
+        discharge: f64,
+        heads: *mut f64,
+        heads_length: usize,
+        flows: *mut f64,
+        flows_length: usize,
+        coefficient: *mut f64,
+    ) -> u64;
     fn vintuqay_line(
         section: usize,
         head: f64,
@@ -93,6 +104,24 @@ pub fn run_on(job: &[u8], done: u64, count: u64, rows: &mut RowStore, lengths: L
     let packed =
         unsafe { vintuqay_run_on(bytes, size, done, count, a, la, b, lb, c, lc, d, ld, e, le) };
     Answer::unpacked(packed)
+}
+
+/// The valve set, lent the first `lengths` entries of heads and flows: the whole number handed back. The job is borrowed
+/// mutably only so that a store into it would show.
+pub fn set_valve(
+    job: &mut [u8],
+    level: f64,
+    discharge: f64,
+    rows: &mut RowStore,
+    lengths: [usize; 2],
+    coefficient: &mut f64,
+) -> u64 {
+    let [lh, lf] = lengths;
+    let [heads, flows, ..] = pointers(rows, [lh, lf, 0, 0, 0]);
+    let (bytes, size) = (job.as_mut_ptr(), job.len());
+    // SAFETY: `pointers` has seen that each row holds what is lent of it; job, rows and coefficient are apart from each
+    // other and borrowed mutably here.
+    unsafe { vintuqay_set_valve(bytes, size, level, discharge, heads, lh, flows, lf, coefficient) }
 }
 
 /// The line of a section at the front of `out`: how many bytes it takes, 0 for a refusal.

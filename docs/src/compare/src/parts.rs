@@ -1,6 +1,6 @@
 //! What is compared, each part with a seed of its own.
 
-use crate::{cases, outlets, ways};
+use crate::{cases, outlets, set_cases, ways};
 
 mod calls;
 mod edits;
@@ -9,6 +9,7 @@ mod jobs;
 mod lines;
 mod lists;
 mod roots;
+mod settings;
 
 pub use calls::calls;
 pub use edits::edits;
@@ -17,6 +18,7 @@ pub use jobs::{accepted_jobs, damaged_jobs};
 pub use lines::{lines, listings};
 pub use lists::lists;
 pub use roots::roots;
+pub use settings::settings;
 
 /// What must be counted for the comparison to pass, and how often at least.
 pub fn to_be_reached() -> Vec<(&'static str, u64)> {
@@ -28,5 +30,7 @@ pub fn to_be_reached() -> Vec<(&'static str, u64)> {
     counts.push(forms::IN_ALL_FORMS);
     counts.extend(edits::all());
     counts.extend(roots::all());
+    counts.extend(set_cases::all());
+    counts.extend(settings::all());
     counts
 }

@@ -5,7 +5,7 @@ use reference::reader::QUESTIONS;
 use std::collections::BTreeMap;
 
 /// Every number of a refusal or a stop, those to every job apart, which the reader has.
-const OTHER_NUMBERS: [u8; 7] = [20, 21, 22, 23, 24, 40, 41];
+const OTHER_NUMBERS: [u8; 9] = [20, 21, 22, 23, 24, 40, 41, 51, 52];
 
 #[derive(Default)]
 pub struct Tally {

@@ -1,6 +1,7 @@
 //! Jobs at random, the same ones from the same seed: sound ones, odd ones that are accepted all
-//! the same, ones near rest at their outlets, and damaged ones.
+//! the same, ones near rest at their outlets, chains and near-chains, and damaged ones.
 
+mod chains;
 mod damaged;
 mod network;
 mod odd;
@@ -8,7 +9,8 @@ mod outlets;
 mod random;
 mod sound;
 
-pub use damaged::{damaged, damaged_anywhere};
+pub use chains::{chain, chain_of, near_chain, Break, ToSet, CAUSES_TOGETHER};
+pub use damaged::{damaged, damaged_anywhere, damaged_from, edited_anywhere};
 pub use odd::odd;
 pub use outlets::outlets;
 pub use random::Random;

@@ -4,6 +4,8 @@
 //! - [`reader`]: questions 1 to 15 and 50; [`layout`]: pairs, tables and forms; [`job`]: what an accepted job says.
 //! - [`root`], [`wave`], [`node`]: the equations, rounded once an operation in the written order.
 //! - [`run`]: start and run-on over five lent slices ([`rows`]); [`listing`]: the lines of the program.
+//! - [`valve_setting`]: the coefficient of a chain's valve for a discharge; [`rest`]: how far a run departs from its
+//!   initial state.
 //! - [`baseline`]: the same run-on written for speed.
 //! - [`draft`], [`generate`]: jobs built by a program, sound, odd and damaged ones at random.
 //! - [`text`], [`decimals`], [`refusal`]: jobs and listings that people can read.
@@ -21,9 +23,11 @@ pub mod listing;
 pub mod node;
 pub mod reader;
 pub mod refusal;
+pub mod rest;
 pub mod root;
 pub mod rows;
 pub mod run;
 pub mod samples;
 pub mod text;
+pub mod valve_setting;
 pub mod wave;

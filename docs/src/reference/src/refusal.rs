@@ -49,6 +49,11 @@ impl Refused {
                 "table 6 is empty, or it has two bytes per node, each count in it is at least 1, \
                  and the byte that it replaces in each node's record is 0"
             }
+            51 => {
+                "pipe i runs from node i to node i + 1, node 0 is a reservoir, the last a valve and the others \
+                 junctions whose scheduled values are all zero, and the level and the flow are finite"
+            }
+            52 => "the two rows lent hold the section count",
             _ => "no question of documents 01 and 02 has this number",
         }
     }

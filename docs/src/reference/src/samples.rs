@@ -5,6 +5,7 @@ use crate::lauria;
 use crate::layout::Form;
 use std::f64::consts::PI;
 
+mod set_main;
 pub mod timed;
 
 /// A sample job: the name of its file, a line on what it is, and the job.
@@ -60,6 +61,11 @@ fn of_mains() -> Vec<Sample> {
             "ditch-outlet",
             "A main to an outlet over a ditch: a hydrant takes the head below the outlet, which then draws nothing.",
             ditch_outlet(),
+        ),
+        sample(
+            "set-main",
+            "A village main of three diameters, its valve set for 40 l/s (set-valve): a run from there stays near rest.",
+            set_main::set_main(),
         ),
         sample(
             "slow-gate",

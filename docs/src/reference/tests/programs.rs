@@ -1,7 +1,8 @@
 //! The programs, run as people run them, over the sample jobs.
 
+use reference::draft::Draft;
 use reference::samples;
-use reference::text::to_text;
+use reference::text::{from_text, to_text};
 use std::io::Write;
 use std::process::{Command, Output, Stdio};
 use std::{fs, path::Path};
@@ -104,6 +105,7 @@ fn samples_end_as_they_say() {
         ("rising-main", "done 600"),
         ("branches-and-loop", "done 400"),
         ("ditch-outlet", "done 30"),
+        ("set-main", "done 1000"),
         ("stops-as-40", "notfinite 8 0"),
         ("stops-as-41", "parted 4 3"),
         ("lauria", "done 113"),
@@ -146,4 +148,111 @@ fn a_listing_in_decimals() {
     let first: Vec<&str> = text.lines().nth(1).unwrap().split_whitespace().collect();
     assert_eq!([first[0], first[1], first[3], first[4]], ["0", "150", "150", "150"]);
     assert_eq!(text.lines().last(), Some("Done: 113 steps."));
+}
+
+/// What `set-valve` prints and says of a text, and whether it succeeds.
+fn set_valve(arguments: &[&str], text: &str) -> (String, String, bool) {
+    let output = run(env!("CARGO_BIN_EXE_set-valve"), arguments, text.as_bytes());
+    let [printed, said] =
+        [output.stdout, output.stderr].map(|text| String::from_utf8(text).unwrap());
+    (printed, said, output.status.success())
+}
+
+fn set_main() -> (String, Draft) {
+    let text = String::from_utf8(text_of("set-main")).unwrap();
+    let draft = from_text(&text).unwrap();
+    (text, draft)
+}
+
+#[test]
+fn set_valve_makes_the_sample_again() {
+    let (_, draft) = set_main();
+    let mut unset = draft.clone();
+    unset.nodes[3].figures[0] = 0.0;
+    unset.sections.iter_mut().for_each(|section| [section[0], section[1]] = [70.0, -1.0]);
+    let (printed, said, success) = set_valve(&["60", "0.04"], &to_text("", &unset));
+    assert!(success && said.is_empty(), "{said}");
+    assert_eq!(from_text(&printed).unwrap(), draft);
+}
+
+/// Coefficient and initial state are changed, and nothing else; what keeps the run from rest is said.
+#[test]
+fn set_valve_leaves_the_schedules() {
+    let (text, draft) = set_main();
+    let (printed, said, success) =
+        set_valve(&["55", "0.03"], &text.replace("schedule 1 ", "schedule 1 0.5 "));
+    assert!(success);
+    let lines: Vec<&str> = said.lines().collect();
+    assert!(lines[0].starts_with("node 0: the reservoir's scheduled levels are not all 55, so"));
+    assert!(lines[1].starts_with("node 3: the valve's openings are not all 1, so"));
+    assert_eq!(lines.len(), 2);
+    let mut set = from_text(&printed).unwrap();
+    assert_eq!((set.sections[0][0], set.sections[28][1]), (55.0, 0.03));
+    for (section, old) in set.sections.iter_mut().zip(&draft.sections) {
+        [section[0], section[1]] = [old[0], old[1]];
+    }
+    set.nodes[3].figures[0] = draft.nodes[3].figures[0];
+    assert_eq!(set.nodes[3].schedule, [1.0, 0.5]);
+    set.nodes[3].schedule = vec![1.0];
+    assert_eq!(set, draft);
+}
+
+#[test]
+fn set_valve_says_why_there_is_no_coefficient() {
+    let (text, _) = set_main();
+    for (level, discharge, words) in [
+        (
+            "60",
+            "0",
+            "no coefficient sets the valve for this discharge\nthe discharge is not above zero\n",
+        ),
+        ("41.5", "0.001", "a head is below its floor, first at section 0: 41.5 below 42\n"),
+        ("45", "0.04", "the head at the valve is not above its outlet: 36.57066672185529 and 44\n"),
+        ("60", "1e200", "a head is not finite\n"),
+        ("nan", "0.04", "the level is not finite\n"),
+        ("60", "-inf", "the discharge is not finite\n"),
+        ("60", "much", "`much` is no number\n"),
+    ] {
+        let (printed, said, success) = set_valve(&[level, discharge], &text);
+        assert!(!success && printed.is_empty() && said.contains(words), "{said}");
+    }
+    let (_, said, success) = set_valve(&["60"], &text);
+    assert!(!success && said.starts_with("set-valve takes a level"), "{said}");
+}
+
+#[test]
+fn set_valve_says_why_a_job_is_refused() {
+    let (text, _) = set_main();
+    let parted = text.replace("node junction ", "node reservoir ");
+    let drawn = text.replace("schedule 0 ", "schedule 0 -0 0.001 ");
+    let reversed = text.replace("from 1 to 2", "from 2 to 1");
+    for (text, number, words) in [
+        (parted.as_str(), 51, "\nnode 1 is no junction\n"),
+        (&drawn, 51, "\nthe draw-off of junction 1 is not zero in entry 3\n"),
+        (&reversed, 51, "\npipe 1 does not run from node 1 to node 2\n"),
+        (&text.replace("schedule 1 ", "schedule 2 "), 15, "openings and speeds from 0 to 1\n"),
+    ] {
+        let (printed, said, success) = set_valve(&["60", "0.04"], text);
+        assert!(
+            said.starts_with(&format!("refused {number}: ")) && said.ends_with(words),
+            "{said}"
+        );
+        assert!(!success && printed.is_empty());
+    }
+    let (_, said, _) = set_valve(&["60", "0.04"], "hose 1");
+    assert_eq!(said, "line 1: no line begins with `hose`\n");
+}
+
+#[test]
+fn rest_tells_how_far_a_run_departs() {
+    let printed = |job: &[u8]| run(env!("CARGO_BIN_EXE_rest"), &[], job);
+    let text = String::from_utf8(printed(&bytes_of("set-main")).stdout).unwrap();
+    assert_eq!(
+        text,
+        "head: at most 1.492e-13 m from the initial one, at section 23 after step 59\n\
+         flow: at most 1.318e-16 m³/s from the initial one, at section 20 after step 290\n\
+         done 1000\n"
+    );
+    let refused = printed(b"no job");
+    assert!(!refused.status.success() && refused.stdout.is_empty());
 }

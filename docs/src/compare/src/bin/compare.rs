@@ -18,6 +18,7 @@ fn main() {
     parts::lists(&mut tally);
     parts::edits(&mut tally);
     parts::forms(&mut tally);
+    parts::settings(&mut tally);
     parts::roots(&mut tally);
     parts::lines(&mut tally);
     parts::listings(&mut tally);

@@ -23,7 +23,16 @@ fn place(question: u8) -> usize {
 /// A job that would be sound but that each question named is answered with no; so the one that is
 /// asked first decides.
 pub fn damaged(random: &mut Random, questions: &[u8]) -> Vec<u8> {
-    let mut draft = sound_with(random, 20, 28_000);
+    let draft = sound_with(random, PIPES_TO_DAMAGE, BYTES_TO_DAMAGE);
+    damaged_from(random, draft, questions)
+}
+
+/// Pipes and bytes that a job to be damaged has at the most, so that some may be added.
+pub(super) const PIPES_TO_DAMAGE: usize = 20;
+pub(super) const BYTES_TO_DAMAGE: usize = 28_000;
+
+/// The same of this job, which is accepted.
+pub fn damaged_from(random: &mut Random, mut draft: Draft, questions: &[u8]) -> Vec<u8> {
     if questions.contains(&50) && draft.form == Form::FivePairs {
         draft.form = random.pick(&[Form::EmptyTable6, Form::FullTable6]);
     }
@@ -67,7 +76,12 @@ fn add_to_u32(bytes: &mut [u8], at: usize, more: u32) {
 
 /// A job damaged by a few edits anywhere; which question refuses it, if one does, is not foreseen.
 pub fn damaged_anywhere(random: &mut Random) -> Vec<u8> {
-    let mut bytes = if random.once_in(2) { sound(random).bytes() } else { odd(random).bytes() };
+    let bytes = if random.once_in(2) { sound(random).bytes() } else { odd(random).bytes() };
+    edited_anywhere(random, bytes)
+}
+
+/// The same of these bytes.
+pub fn edited_anywhere(random: &mut Random, mut bytes: Vec<u8>) -> Vec<u8> {
     for _ in 0..random.from_to(1, 4) {
         edit(random, &mut bytes);
     }

@@ -31,7 +31,7 @@ pub fn sound_with(random: &mut Random, most_pipes: usize, most_bytes: usize) -> 
 }
 
 #[derive(Clone, Copy)]
-enum Figures {
+pub(super) enum Figures {
     /// Metres and seconds of a real main.
     Engineer,
     /// Whole numbers and quarters, so that many results are exact.
@@ -39,7 +39,7 @@ enum Figures {
 }
 
 /// A number of the job's figures from `least` to `most`: in quarters where they are small.
-fn number(random: &mut Random, figures: Figures, least: f64, most: f64) -> f64 {
+pub(super) fn number(random: &mut Random, figures: Figures, least: f64, most: f64) -> f64 {
     match figures {
         Figures::Engineer => random.number(least, most),
         Figures::Small => (random.number(least, most) * 4.0).round() / 4.0,
@@ -48,7 +48,7 @@ fn number(random: &mut Random, figures: Figures, least: f64, most: f64) -> f64 {
 
 /// How many entries a schedule has: mostly one or a few, at times as many as a byte counts, and more
 /// where the form counts more.
-fn entry_count(random: &mut Random, form: Form) -> usize {
+pub(super) fn entry_count(random: &mut Random, form: Form) -> usize {
     match random.below(8) {
         0..=2 => 1,
         3..=6 => random.from_to(2, 9),
@@ -85,7 +85,12 @@ fn node(random: &mut Random, figures: Figures, form: Form) -> DraftNode {
 }
 
 /// The pipes, at most 512 sections in all, at times exactly 512.
-fn add_pipes(random: &mut Random, figures: Figures, network: &Network, draft: &mut Draft) {
+pub(super) fn add_pipes(
+    random: &mut Random,
+    figures: Figures,
+    network: &Network,
+    draft: &mut Draft,
+) {
     let mut left = 512 - 2 * network.pipes.len();
     let (size, fill) = (random.pick(&[1, 3, 12, 60, left]), random.once_in(6));
     for (place, &(start, finish)) in network.pipes.iter().enumerate() {
@@ -122,7 +127,7 @@ fn add_sections(random: &mut Random, figures: Figures, draft: &mut Draft) {
 }
 
 /// Brings the job down to the bytes that it may have.
-fn shorten_schedules(draft: &mut Draft, most_bytes: usize) {
+pub(super) fn shorten_schedules(draft: &mut Draft, most_bytes: usize) {
     while draft.byte_count() > most_bytes {
         let longest = draft.longest_schedule();
         let most = longest - longest.div_ceil(4);
