@@ -1,6 +1,6 @@
 -- The three laws of the call that sets a valve. 'None' is the answer where one of five tests fails, each of which is one of the causes; the rows that are written
 -- begin with the heads, which never rise, and with Q. Assumes nothing.
-use mathlib.Core.Path.{_≡_, refl, sym, ap, _∙_}
+use mathlib.Core.Path.{_≡_, refl, sym, ap, subst, _∙_}
 use mathlib.Core.Bool.{Bool, true, false, not, cond, _&&_, true≢false}
 use mathlib.Core.List.{List, _++_}
 use mathlib.Core.Option.{some}
@@ -21,7 +21,7 @@ use Rattle.job.specs.Format.{frictionTable, pipeTable, pipeCount, pipeIn, pipes
 use Rattle.job.specs.Questions.{refusal, Accepted, rFits}
 use Rattle.job.proofs.SectionLaws.{r-fits}
 use Rattle.job.proofs.Accepted.{friction-fits, constant-fits}
-use Rattle.setting.specs.Setting.{headsOf, headAt, lastHead, outletHead, coefficientFor, headFits, isGiven, refused, none, coefficient, Called, settled, isChainWith, rowsHold, setValve}
+use Rattle.setting.specs.Setting.{headsOf, headAt, lastHead, outletHead, coefficientFor, headFits, isGiven, Answer, refused, none, coefficient, Called, settled, isChainWith, rowsHold, setValve}
 use Rattle.setting.specs.Laws.{Asked, Cause, flow-not-above-zero, head-below-floor, head-not-above-outlet, head-not-finite, difference-not-finite, coefficient-not-finite, WhereGiven, SettingLaws}
 use Rattle.setting.proofs.HeadList.{heads-length}
 use Rattle.setting.proofs.NeverRising.{heads-fall, any-two}
@@ -59,28 +59,24 @@ module _ (bytes : List ℕ) (L Q : Float) (heads flows : List Float) where
   all-yes : (b : Bool) → eqb (refusal bytes) 0 ≡ true → isChainWith j L Q ≡ true → rowsHold j heads flows ≡ true → isGiven j L Q ≡ b → AllYes b
   all-yes b x y z w = record { asked = record { accepted = eqb-true _ _ x; chain = y; rows = z }; verdict = w }
 
-  -- what each answer tells of the tests
-  where-none : setValve bytes L Q heads flows .answer ≡ none → AllYes false
-  where-none h = go (eqb (refusal bytes) 0) refl (isChainWith j L Q) refl (rowsHold j heads flows) refl (isGiven j L Q) refl (ap (λ (c : Called). c .answer) (sym call-is) ∙ h)
-    where
-      go : (x : Bool) → eqb (refusal bytes) 0 ≡ x → (y : Bool) → isChainWith j L Q ≡ y → (z : Bool) → rowsHold j heads flows ≡ z → (w : Bool) → isGiven j L Q ≡ w
-          → callBy x y z w .answer ≡ none → AllYes false
-      go true ex true ey true ez true ew e = let z : _≡_ {A = ℕ} 0 1 = cc in absurd (omega arith)
-      go true ex true ey true ez false ew e = all-yes false ex ey ez ew
-      go true ex true ey false ez w ew e = let z : _≡_ {A = ℕ} 0 1 = cc in absurd (omega arith)
-      go true ex false ey z ez w ew e = let z : _≡_ {A = ℕ} 0 1 = cc in absurd (omega arith)
-      go false ex y ey z ez w ew e = let z : _≡_ {A = ℕ} 0 1 = cc in absurd (omega arith)
+  -- what an answer tells of the tests: nothing where it is a refusal
+  abbrev Tells : Answer → Type 0
+  Tells (refused q) = Unit {0}
+  Tells none = AllYes false
+  Tells (coefficient a) = AllYes true
 
-  where-given : (a : Float) → setValve bytes L Q heads flows .answer ≡ coefficient a → AllYes true
-  where-given a h = go (eqb (refusal bytes) 0) refl (isChainWith j L Q) refl (rowsHold j heads flows) refl (isGiven j L Q) refl (ap (λ (c : Called). c .answer) (sym call-is) ∙ h)
+  tells : Tells (setValve bytes L Q heads flows .answer)
+  tells =
+      subst (λ (c : Called). Tells (c .answer)) (sym call-is)
+      (go (eqb (refusal bytes) 0) refl (isChainWith j L Q) refl (rowsHold j heads flows) refl (isGiven j L Q) refl)
     where
       go : (x : Bool) → eqb (refusal bytes) 0 ≡ x → (y : Bool) → isChainWith j L Q ≡ y → (z : Bool) → rowsHold j heads flows ≡ z → (w : Bool) → isGiven j L Q ≡ w
-          → callBy x y z w .answer ≡ coefficient a → AllYes true
-      go true ex true ey true ez true ew e = all-yes true ex ey ez ew
-      go true ex true ey true ez false ew e = let z : _≡_ {A = ℕ} 0 1 = cc in absurd (omega arith)
-      go true ex true ey false ez w ew e = let z : _≡_ {A = ℕ} 0 1 = cc in absurd (omega arith)
-      go true ex false ey z ez w ew e = let z : _≡_ {A = ℕ} 0 1 = cc in absurd (omega arith)
-      go false ex y ey z ez w ew e = let z : _≡_ {A = ℕ} 0 1 = cc in absurd (omega arith)
+          → Tells (callBy x y z w .answer)
+      go true ex true ey true ez true ew = all-yes true ex ey ez ew
+      go true ex true ey true ez false ew = all-yes false ex ey ez ew
+      go true ex true ey false ez w ew = tt
+      go true ex false ey z ez w ew = tt
+      go false ex y ey z ez w ew = tt
 
   -- the call where every question has a yes
   call-where : (b : Bool) → AllYes b → setValve bytes L Q heads flows ≡ cond b written record { heads = heads; flows = flows; answer = none }
@@ -204,15 +200,15 @@ pub setting-laws : SettingLaws
 unfolding WhereGiven
 setting-laws = record {
   none-exactly = λ bytes L Q heads flows. (
-    λ e. let y = where-none bytes L Q heads flows e in (y .asked, one-cause (jobOf bytes) L Q (y .verdict)),
+    λ e. let y = subst (Tells bytes L Q heads flows) e (tells bytes L Q heads flows) in (y .asked, one-cause (jobOf bytes) L Q (y .verdict)),
     λ c. ap (λ (x : Called). x .answer) (call-where bytes L Q heads flows false record { asked = c .0; verdict = not-given (jobOf bytes) L Q (c .1) }),
   );
   flow-is-Q = λ bytes L Q a heads flows e s l.
-      let y = where-given bytes L Q heads flows a e in
+      let y = subst (Tells bytes L Q heads flows) e (tells bytes L Q heads flows) in
       ap (λ (x : Called). getD (x .flows) s zero64) (call-where bytes L Q heads flows true y)
       ∙ List·getD-append (replicate (sections (jobOf bytes)) Q) _ zero64 s (omega (arith, length-replicate (sections (jobOf bytes)) Q))
       ∙ getD-replicate (sections (jobOf bytes)) s Q zero64 l;
   never-rises = λ bytes L Q a heads flows e f s t u l.
-      let y = where-given bytes L Q heads flows a e in
+      let y = subst (Tells bytes L Q heads flows) e (tells bytes L Q heads flows) in
       rw (head-written bytes L Q heads flows y s (omega arith), head-written bytes L Q heads flows y t l) (heads-never-rise bytes L Q heads flows y f s t u l);
 }

@@ -96,6 +96,16 @@ static const char *said(uint64_t answer) {
     }
 }
 
+static void print_rows(void) {
+    printf("heads");
+    for (int section = 0; section < SECTIONS; section++)
+        printf(" %g", h[section]);
+    printf(", flows");
+    for (int section = 0; section < SECTIONS; section++)
+        printf(" %g", q[section]);
+    printf("\n");
+}
+
 /* From the start to step 5, one step a call. */
 static void run_job(void) {
     uint64_t answer = vintuqay_read(job, used);
@@ -104,13 +114,8 @@ static void run_job(void) {
     answer = vintuqay_start(job, used, h, SECTIONS, q, SECTIONS, high, SECTIONS, low, SECTIONS,
                             spare, SPARE);
     while (vintuqay_number(answer) == VINTUQAY_DONE) {
-        printf("step %u: heads", (unsigned)vintuqay_steps(answer));
-        for (int section = 0; section < SECTIONS; section++)
-            printf(" %g", h[section]);
-        printf(", flows");
-        for (int section = 0; section < SECTIONS; section++)
-            printf(" %g", q[section]);
-        printf("\n");
+        printf("step %u: ", (unsigned)vintuqay_steps(answer));
+        print_rows();
         if (vintuqay_steps(answer) == 5)
             break;
         answer = vintuqay_run_on(job, used, vintuqay_steps(answer), 1, h, SECTIONS, q, SECTIONS,
@@ -137,14 +142,9 @@ static void read_with(const char *what, size_t at, uint8_t byte) {
 static void set_valve(double level, double discharge, size_t flows) {
     double a = -1;
     uint64_t answer = vintuqay_set_valve(job, used, level, discharge, h, SECTIONS, q, flows, &a);
-    printf("level %g, discharge %g: %u, %s, a = %g, heads", level, discharge, vintuqay_number(answer),
+    printf("level %g, discharge %g: %u, %s, a = %g, ", level, discharge, vintuqay_number(answer),
            said(answer), a);
-    for (int section = 0; section < SECTIONS; section++)
-        printf(" %g", h[section]);
-    printf(", flows");
-    for (int section = 0; section < SECTIONS; section++)
-        printf(" %g", q[section]);
-    printf("\n");
+    print_rows();
 }
 
 int main(void) {
