@@ -1,2 +1,1 @@
-pub mod BySpare
 pub mod StepsInRows

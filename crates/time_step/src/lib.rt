@@ -5,8 +5,6 @@ ghost use Prim.Native.Nat.{_+_, _≤_};
 ghost use Rattle.recurrence.specs.Slices.{lent, before, after};
 ghost use Rattle.time_step.specs.StepsInRows.{Ready, StepsInRows};
 
-mod check;
-mod commit;
 mod one_step;
 
 use section::Scan;

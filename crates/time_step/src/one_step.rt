@@ -40,11 +40,11 @@ pub(super) fn one_step(
     let step = after as usize;
     let values = pipe_ends::nodes::values_at(job, step);
     pipe_ends::spare::write_ends(job, values, sums, heads, flows, spare);
-    let found = super::check::check(job, heads, flows, spare);
+    let found = step_check::check(job, heads, flows, spare);
     if stops(found) {
         return Ended { steps: done, found };
     }
-    super::commit::commit(job, spare, heads, flows, highest, lowest);
+    step_commit::commit(job, spare, heads, flows, highest, lowest);
     Ended {
         steps: after,
         found,

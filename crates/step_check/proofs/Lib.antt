@@ -1,0 +1,4 @@
+pub mod CutToPipe
+pub mod BySpare
+pub mod FaultCount
+pub mod FirstFault

@@ -1,0 +1,2 @@
+pub mod InnerThenStart
+pub mod WholePipe
