@@ -10,9 +10,6 @@ ghost use Rattle.job.specs.Format.{rIn};
 ghost use Rattle.inner_sections.specs.InnerSections as pipe;
 use wave::HeadFlow;
 
-pub mod check;
-pub mod commit;
-
 // R of reach i of a pipe, from the bytes of table 3.
 fn friction_at(friction: &[u8], i: usize) -> f64
     requires { ⌜ (i * 8 + 8 ≤ length (now friction)) × (finite (rIn (now friction) i) ≡ true) ⌝ }
@@ -22,7 +19,7 @@ fn friction_at(friction: &[u8], i: usize) -> f64
 }
 
 // CP along reach i, from what the section above it held.
-fn cp_along(friction: &[u8], s: f64, i: usize, above: HeadFlow) -> f64
+pub fn cp_along(friction: &[u8], s: f64, i: usize, above: HeadFlow) -> f64
     requires { ⌜ (i * 8 + 8 ≤ length (now friction)) × (finite (rIn (now friction) i) ≡ true) ⌝ }
     ensures { λ cp. ⌜ cp ≡ fromAbove s (rIn (now (friction .entry)) i) (above .head) (above .flow) ⌝ }
 {
@@ -30,7 +27,7 @@ fn cp_along(friction: &[u8], s: f64, i: usize, above: HeadFlow) -> f64
 }
 
 // CP of section i + 1.
-fn cp_at(friction: &[u8], s: f64, i: usize, heads: &[f64], flows: &[f64]) -> f64
+pub fn cp_at(friction: &[u8], s: f64, i: usize, heads: &[f64], flows: &[f64]) -> f64
     requires { ⌜ (pipe.CutToPipe (now friction) (length (now heads)) (length (now flows)))
         × (i + 1 < length (now heads)) ⌝ }
     ensures { λ cp. ⌜ cp
@@ -40,7 +37,7 @@ fn cp_at(friction: &[u8], s: f64, i: usize, heads: &[f64], flows: &[f64]) -> f64
 }
 
 // CM of section i + 1.
-fn cm_at(friction: &[u8], s: f64, i: usize, heads: &[f64], flows: &[f64]) -> f64
+pub fn cm_at(friction: &[u8], s: f64, i: usize, heads: &[f64], flows: &[f64]) -> f64
     requires { ⌜ (pipe.CutToPipe (now friction) (length (now heads)) (length (now flows)))
         × (i + 2 < length (now heads)) ⌝ }
     ensures { λ cm. ⌜ cm
@@ -51,7 +48,7 @@ fn cm_at(friction: &[u8], s: f64, i: usize, heads: &[f64], flows: &[f64]) -> f64
 }
 
 // Section i + 1 after the step, from its CP.
-fn by_cp(friction: &[u8], s: f64, i: usize, cp: f64, heads: &[f64], flows: &[f64]) -> HeadFlow
+pub fn by_cp(friction: &[u8], s: f64, i: usize, cp: f64, heads: &[f64], flows: &[f64]) -> HeadFlow
     requires { ⌜ (pipe.CutToPipe (now friction) (length (now heads)) (length (now flows)))
         × (i + 2 < length (now heads)) ⌝ }
     ensures { λ x. ⌜ x
@@ -61,13 +58,13 @@ fn by_cp(friction: &[u8], s: f64, i: usize, cp: f64, heads: &[f64], flows: &[f64
 }
 
 // CP of two sections, one after the other.
-struct TwoCp {
-    first: f64,
-    second: f64,
+pub struct TwoCp {
+    pub first: f64,
+    pub second: f64,
 }
 
 // CP of sections i + 1 and i + 2.
-fn two_cp(friction: &[u8], s: f64, i: usize, heads: &[f64], flows: &[f64]) -> TwoCp
+pub fn two_cp(friction: &[u8], s: f64, i: usize, heads: &[f64], flows: &[f64]) -> TwoCp
     requires { ⌜ (pipe.CutToPipe (now friction) (length (now heads)) (length (now flows)))
         × (i + 2 < length (now heads)) ⌝ }
     ensures { λ r. ⌜ r

@@ -44,7 +44,7 @@ fn inner_faults(job: &[u8], l: Laid, heads: &[f64], flows: &[f64]) -> u64
     let end = first + l.reaches + 1;
     let from = first * 24;
     let to = end * 24;
-    inner_sections::check::faults(
+    inner_check::faults(
         &friction[a..b],
         &initial[from..to],
         l.s,
@@ -119,7 +119,7 @@ fn new_at(
     let b = a + l.reaches * 8;
     let first = l.first_section;
     let end = first + l.reaches + 1;
-    inner_sections::check::inner_at(
+    inner_check::inner_at(
         &friction[a..b],
         l.s,
         i - 1,

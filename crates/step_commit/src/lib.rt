@@ -33,7 +33,7 @@ fn commit_inner(
     let b = a + l.reaches * 8;
     let first = l.first_section;
     let end = first + l.reaches + 1;
-    inner_sections::commit::commit(
+    inner_commit::commit(
         &friction[a..b],
         l.s,
         &mut heads[first..end],

@@ -1,0 +1,2 @@
+pub mod NoDivision
+pub mod QuickLook
