@@ -1,8 +1,8 @@
--- What a step takes from acceptance: how many pipes and nodes there are, R of each reach, and where a laid pipe lies. Assumes nothing.
+-- What a call takes from acceptance: how many pipes and nodes there are, R of each reach, the floor of each section, and where a laid pipe lies. Assumes nothing.
 use mathlib.Core.Path.{_≡_, sym, ap, _∙_}
 use mathlib.Core.Bool.{true, false}
 use mathlib.Core.List.{List}
-use Prim.Native.Nat.{ℕ, suc, _+_, _≤_, _<_}
+use Prim.Native.Nat.{ℕ, suc, _+_, _*_, _/_, _≤_, _<_}
 use native.Mathlib.Omega.{arith}
 use lib.Dec.{eqb}
 use lib.ListN.{length, take}
@@ -10,8 +10,8 @@ use lib.Seq.{take-all}
 use lib.Ieee.Scale.{finite}
 use borrow.Author.Tests.{ne-eqb}
 use Rattle.fields.specs.Real.{zero64}
-use Rattle.job.specs.Job.{Laid, laid, laidFrom, sections, frictionAt}
-use Rattle.job.specs.Format.{jobOf, pipeTable, nodeTable, frictionTable, pipeCount, pipeIn, pipesIn, reachesOf, nodeCount, rIn, frictionIn}
+use Rattle.job.specs.Job.{Laid, laid, laidFrom, sections, frictionAt, initialAt, floorAt}
+use Rattle.job.specs.Format.{jobOf, pipeTable, nodeTable, frictionTable, initialTable, pipeCount, pipeIn, pipesIn, reachesOf, nodeCount, rIn, frictionIn, initialIn, sectionIn}
 use Rattle.job.specs.Questions.{Accepted, pairQuestions, firstNo, rFits}
 use Rattle.job.proofs.FirstNo.{none-refused}
 use Rattle.loops.proofs.Tests.{both}
@@ -19,9 +19,11 @@ use Rattle.loops.proofs.Listed.{getD-listed, listed-some}
 use Rattle.job.specs.Walk.{past}
 use Rattle.job.proofs.WalkLaws.{sections-reaches}
 use Rattle.job.proofs.SectionLaws.{r-fits}
-use Rattle.job.proofs.Accepted.{GoodPipe, accepted-pipe, pipes-length, nodes-length, pipe-limits, node-limits, section-limit, friction-fits}
+use Rattle.job.proofs.Accepted.{GoodPipe, accepted-pipe, pipes-length, nodes-length, pipe-limits, node-limits, section-limit, friction-fits, initial-length}
 pub use Rattle.job.proofs.Accepted.{friction-length}
+use Rattle.recurrence.specs.Calls.{inUse, spare}
 use Rattle.recurrence.proofs.LaidPipes.{laid-spanned, laid-length}
+use Rattle.section.specs.Faults.{floorIn}
 use Rattle.job.specs.Walk.{past}
 use Rattle.job.proofs.WalkLaws.{walk-more, walk-here, walk-done, walk-reach}
 use Rattle.pipe_ends.specs.declared.layout.Laid as Code
@@ -44,6 +46,10 @@ module _ (job : List ℕ) (ok : Accepted job) where
   pub few-nodes : nodeCount (nodeTable job) ≤ 32
   few-nodes = omega (arith, node-limits job ok .1, nodes-length job ok)
 
+  -- the spare's entries in use, as the code counts them
+  pub four-a-pipe : inUse (jobOf job) spare ≡ pipeCount (pipeTable job) * 4
+  four-a-pipe = ap (λ (p : ℕ). p * 4) (pipes-length job ok)
+
   -- what a read of table 3 finds
   pub friction-finite : (r : ℕ) → r < reachesOf (jobOf job .pipes) → finite (rIn (frictionTable job) r) ≡ true
   unfolding rFits
@@ -52,6 +58,12 @@ module _ (job : List ℕ) (ok : Accepted job) where
   pub friction-read : (r : ℕ) → r < reachesOf (jobOf job .pipes) → frictionAt (jobOf job) r ≡ rIn (frictionTable job) r
   unfolding frictionAt jobOf frictionIn
   friction-read r l = getD-listed _ (rIn (frictionTable job)) r zero64 (omega (arith, friction-length job ok))
+
+  -- what a read of table 4 finds
+  pub floor-read : (s : ℕ) → s < sections (jobOf job) → floorIn (initialTable job) s ≡ floorAt (jobOf job) s
+  unfolding floorAt initialAt jobOf initialIn
+  floor-read s h =
+      sym (ap (λ (i : _). i .floor) (getD-listed (length (initialTable job) / 24) (sectionIn (initialTable job)) s _ (omega (arith, initial-length job ok))))
 
   -- ---- a laid pipe of the job
 

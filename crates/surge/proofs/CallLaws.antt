@@ -1,6 +1,6 @@
 -- What a call leaves in the rows, and its answer: refused, begun, or run on. Assumes nothing.
 use mathlib.Core.Path.{_≡_, refl, sym, ap, _∙_}
-use mathlib.Core.Bool.{Bool, true, false, cond, _&&_, and-assoc, and-true}
+use mathlib.Core.Bool.{Bool, true, false, cond}
 use mathlib.Core.List.{List, map}
 use Prim.Native.Nat.{ℕ, _+_, _-_, _*_, _≤_}
 use native.Mathlib.Omega.{arith}
@@ -29,17 +29,13 @@ use Rattle.loops.proofs.Fill.{take-filled}
 use Rattle.surge.specs.declared.answer.Answer.{Answer}
 use Rattle.surge.specs.declared.answer.Answer.the-variants.{Refused, Done}
 use Rattle.time_step.specs.declared.Ended.{Ended}
-use Rattle.surge.specs.Opening.{firstAsked}
+use Rattle.call_questions.specs.Opening.{firstAsked}
 use Rattle.surge.specs.Answers.{paperAnswer, callLeaves}
 use Rattle.time_step.specs.StepsInRows.{SameRest, resultOf}
-use Rattle.time_step.proofs.StepInRows.{four-a-pipe, filled-rest}
+use Rattle.pipe_ends.proofs.Acceptance.{four-a-pipe}
+use Rattle.time_step.proofs.StepInRows.{filled-rest}
 
 -- ---- the questions
-
--- question 20, as the code compares the rows' lengths, of n sections and p pipes
-pub enough-asked : (job : List ℕ) → Accepted job → {n p : ℕ} → n ≡ sections (jobOf job) → p ≡ pipeCount (pipeTable job) → (a b c d e : ℕ)
-    → (((leb n a && leb n b) && leb n c) && leb n d) && leb (p * 4) e ≡ every (λ x. leb (inUse (jobOf job) x) (gathered a b c d e x))
-enough-asked job ok en ep a b c d e = rw (en, ep, sym (four-a-pipe job ok)) (simp (and-assoc, and-true))
 
 -- What is learnt from the answer to the questions to a job and to 20.
 module _ (job : List ℕ) (r : Rows) where

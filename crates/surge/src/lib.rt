@@ -11,8 +11,6 @@ ghost use Rattle.surge.specs.Answers.{paperAnswer, callLeaves};
 ghost use Rattle.time_step.specs.StepsInRows.{Ready, resultOf};
 
 mod answer;
-mod questions;
-mod state;
 
 pub use answer::Answer;
 pub use answer::Numbers;
@@ -48,8 +46,8 @@ fn begin(
         ≡ called (now (job .entry)) (before heads flows highest lowest spare)
         (ran (started (jobOf (now (job .entry)))) completed) ⌝ }
 {
-    state::write_start(job, n, heads, flows, highest, lowest);
-    state::clear_spare(job, spare);
+    call_rows::write_start(job, n, heads, flows, highest, lowest);
+    call_rows::clear_spare(job, spare);
     Answer::Done(0)
 }
 
@@ -65,7 +63,7 @@ pub fn start(
     ensures { λ r. ⌜ callLeaves (after heads flows highest lowest spare) r
         ≡ startCall (now (job .entry)) (before heads flows highest lowest spare) ⌝ }
 {
-    let read = questions::read_and_enough(
+    let read = call_questions::read_and_enough(
         job,
         heads.len(),
         flows.len(),
@@ -105,7 +103,7 @@ fn carry_on(
         ≡ called (now (job .entry)) old (steps j count done (stateIn j old))) ⌝ }
 {
     let ended = time_step::run(job, done, count, heads, flows, highest, lowest, spare);
-    state::clear_spare(job, spare);
+    call_rows::clear_spare(job, spare);
     answer_of(ended)
 }
 
@@ -123,7 +121,7 @@ pub fn run_on(
     ensures { λ r. ⌜ callLeaves (after heads flows highest lowest spare) r
         ≡ runOnCall (now (job .entry)) done count (before heads flows highest lowest spare) ⌝ }
 {
-    let read = questions::read_and_enough(
+    let read = call_questions::read_and_enough(
         job,
         heads.len(),
         flows.len(),
@@ -134,8 +132,8 @@ pub fn run_on(
     match read {
         Read::Refused(q) => Answer::Refused(q),
         Read::Accepted { sections, steps: _ } => {
-            let limit = questions::within_limit(done, count);
-            let fit = state::acceptable(job, sections, heads, flows, highest, lowest);
+            let limit = call_questions::within_limit(done, count);
+            let fit = call_questions::acceptable(job, sections, heads, flows, highest, lowest);
             if !limit {
                 return Answer::Refused(21);
             }

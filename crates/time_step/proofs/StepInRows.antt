@@ -3,7 +3,7 @@
 use mathlib.Core.Path.{_≡_, refl, sym, ap, _∙_}
 use mathlib.Core.Bool.{true, false}
 use mathlib.Core.List.{List}
-use Prim.Native.Nat.{ℕ, _+_, _*_, _/_, _≤_, _<_}
+use Prim.Native.Nat.{ℕ, _+_, _*_, _≤_, _<_}
 use native.Mathlib.Nat.{zero-add}
 use native.Mathlib.Omega.{arith}
 use lib.ListN.{length, drop}
@@ -12,11 +12,9 @@ use Rattle.fields.specs.Real.{zero64}
 use Rattle.loops.specs.Fill.{fill}
 use Rattle.loops.proofs.Fill.{fill-in, drop-fill}
 use Rattle.wave.specs.declared.HeadFlow.{HeadFlow}
-use Rattle.job.specs.Job.{Job, laid, sections, initialAt, floorAt, nodeAt, scheduled, withValue}
-use Rattle.job.specs.Format.{jobOf, pipeTable, pipeCount, initialTable, initialIn, sectionIn}
-use Rattle.job.specs.Questions.{Accepted}
-use Rattle.loops.proofs.Listed.{getD-listed, listed-cong}
-use Rattle.job.proofs.Accepted.{initial-length, pipes-length}
+use Rattle.job.specs.Job.{Job, laid, sections, nodeAt, scheduled, withValue}
+use Rattle.job.specs.Format.{jobOf, pipeTable, pipeCount, initialTable}
+use Rattle.loops.proofs.Listed.{listed-cong}
 use Rattle.recurrence.specs.State.{Point, State, pointAt}
 use Rattle.recurrence.specs.Step.{alongPipes, nodesWith, located, newAt, updated, newPoint, advanced, raised, lowered}
 use Rattle.recurrence.specs.Paths.{EndAt, startsAt, finishesAt, Beside, down, up}
@@ -30,10 +28,10 @@ use Rattle.recurrence.proofs.RowLaws.{Enough, state-at}
 use Rattle.recurrence.proofs.StepLaws.{advanced-at}
 use Rattle.section.specs.SectionRows.{entry, SteppedRows}
 use Rattle.section.specs.declared.findings.Scan.{Scan}
-use Rattle.section.specs.Faults.{floorIn, firstFault, foundFault}
+use Rattle.section.specs.Faults.{firstFault, foundFault}
 use Rattle.section.proofs.RecurrenceTies.{scan-is}
 use Rattle.pipe_ends.specs.FromRows.{alongRows, Lent, overNodes, valueIn, newSection}
-use Rattle.pipe_ends.proofs.Acceptance.{within}
+use Rattle.pipe_ends.proofs.Acceptance.{within, floor-read, four-a-pipe}
 use Rattle.pipe_ends.proofs.NodeHeads.{over-read}
 use Rattle.time_step.specs.StepsInRows.{Ready, stops, StepsInRows}
 use Rattle.time_step.proofs.RunLaws.{ready-enough, step-done, step-stops}
@@ -47,18 +45,8 @@ module _ (f : ℕ → Float) (l : List Float) (n : ℕ) {row : List Float} (fill
   pub filled-rest : drop n row ≡ drop n l
   filled-rest = rw filled (drop-fill f l 0 n n (omega arith))
 
--- ---- what a step reads of the job
+-- ---- what the functions of a step ask of the rows
 
-pub floor-read : (job : List ℕ) → Accepted job → (s : ℕ) → s < sections (jobOf job) → floorIn (initialTable job) s ≡ floorAt (jobOf job) s
-unfolding floorAt initialAt jobOf initialIn
-floor-read job ok s h =
-    sym (ap (λ (i : _). i .floor) (getD-listed (length (initialTable job) / 24) (sectionIn (initialTable job)) s _ (omega (arith, initial-length job ok))))
-
--- the spare's entries in use, as the code counts them
-pub four-a-pipe : (job : List ℕ) → Accepted job → inUse (jobOf job) row.spare ≡ pipeCount (pipeTable job) * 4
-four-a-pipe job ok = ap (λ (p : ℕ). p * 4) (pipes-length job ok)
-
--- what the functions of a step ask of the rows
 pub spare-long : {job : List ℕ} {r : Rows} → Ready job r → pipeCount (pipeTable job) * 4 ≤ length (r row.spare)
 spare-long {job} k = omega (arith, four-a-pipe job (k .accepted), ready-enough k row.spare)
 

@@ -1,7 +1,6 @@
-// The rows before and after a run.
+// What a call writes in the rows besides its steps: the initial state, and +0 in the spare.
 ghost use mathlib.Core.Path.{_≡_};
 ghost use mathlib.Core.Bool.{true};
-ghost use mathlib.Core.List.{List};
 ghost use Prim.Native.Nat.{ℕ, _*_, _≤_};
 ghost use lib.ListN.{length};
 ghost use lib.Ieee.{Float};
@@ -11,8 +10,6 @@ ghost use Rattle.job.specs.Job.{sections, initialAt};
 ghost use Rattle.job.specs.Format.{jobOf, pipeTable, pipeCount};
 ghost use Rattle.job.specs.TableEntries.{initialOf};
 ghost use Rattle.job.specs.Questions.{Accepted, initialFits};
-ghost use Rattle.recurrence.specs.Scan.{acceptable};
-ghost use Rattle.recurrence.specs.Calls.{stateIn, gathered};
 
 // The initial heads and flows of table 4 into the rows of heads and flows, and the heads into both envelopes.
 fn write_initial(
@@ -76,24 +73,4 @@ pub fn clear_spare(job: &[u8], spare: &mut [f64])
 {
     let used = pipe_ends::layout::pipe_count(job) * 4;
     section::clear_row(used, spare);
-}
-
-// Question 22; e stands for the spare, which it does not ask about.
-pub fn acceptable(
-    job: &[u8],
-    n: usize,
-    heads: &[f64],
-    flows: &[f64],
-    highest: &[f64],
-    lowest: &[f64],
-) -> bool
-    requires { ⌜ (Accepted (now job)) × (n ≡ sections (jobOf (now job))) ⌝ }
-    requires { ⌜ (n ≤ length (now heads)) × (n ≤ length (now flows))
-        × (n ≤ length (now highest)) × (n ≤ length (now lowest)) ⌝ }
-    ensures { λ r. ⌜ ((e : List Float) → let j = jobOf (now (job .entry)) in
-        r ≡ acceptable j (stateIn j (gathered (now (heads .entry)) (now (flows .entry))
-        (now (highest .entry)) (now (lowest .entry)) e))) ⌝ }
-{
-    let initial = job::tables::initial(job);
-    section::acceptable(initial, n, heads, flows, highest, lowest)
 }

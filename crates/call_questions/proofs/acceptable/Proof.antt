@@ -1,4 +1,4 @@
--- `surge::state::acceptable` meets its contract: the floors are those of table 4, and a test of the rows' entries is one of the state that they hold.
+-- `call_questions::acceptable` meets its contract: the floors are those of table 4, and a test of the rows' entries is one of the state that they hold.
 -- Assumes nothing.
 use mathlib.Core.Path.{_∙_}
 use native.Mathlib.Omega.{arith}
@@ -6,10 +6,9 @@ use Rattle.recurrence.specs.Calls.{gathered}
 use Rattle.job.specs.Format.{jobOf}
 use Rattle.job.proofs.Accepted.{initial-length, initial-fits}
 use Rattle.section.proofs.RecurrenceTies.{acceptable-is}
-use Rattle.pipe_ends.proofs.Acceptance.{pairs-accepted}
-use Rattle.time_step.proofs.StepInRows.{floor-read}
-use Rattle.surge.proofs.state.acceptable.Statement.{statement}
-use Rattle.surge.proofs.state.acceptable.Tie as tie
+use Rattle.pipe_ends.proofs.Acceptance.{pairs-accepted, floor-read}
+use Rattle.call_questions.proofs.acceptable.Statement.{statement}
+use Rattle.call_questions.proofs.acceptable.Tie as tie
 
 -- the function's entry
 abbrev entry : tie.After-shared-slice-known5 → tie.Start

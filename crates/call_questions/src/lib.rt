@@ -1,13 +1,18 @@
-// The questions put to the start and to the run-on, but for 22.
+// The questions put to the start and to the run-on: those to a job, and 20 to 22.
 ghost use mathlib.Core.Path.{_≡_};
+ghost use mathlib.Core.List.{List};
+ghost use Prim.Native.Nat.{_≤_};
 ghost use lib.Dec.{leb};
+ghost use lib.ListN.{length};
+ghost use lib.Ieee.{Float};
 ghost use Rattle.job.specs.Job.{sections};
 ghost use Rattle.job.specs.Format.{jobOf};
 ghost use Rattle.job.specs.Questions.{Accepted};
 ghost use Rattle.reader.specs.Answer.{paperRead};
+ghost use Rattle.recurrence.specs.Scan.{acceptable};
 ghost use Rattle.recurrence.specs.Run.{withinLimit};
-ghost use Rattle.recurrence.specs.Calls.{gathered, every, inUse};
-ghost use Rattle.surge.specs.Opening.{firstAsked};
+ghost use Rattle.recurrence.specs.Calls.{stateIn, gathered, every, inUse};
+ghost use Rattle.call_questions.specs.Opening.{firstAsked};
 use reader::Read;
 
 // The most steps that a run may come to.
@@ -23,7 +28,7 @@ fn enough(job: &[u8], n: usize, a: usize, b: usize, c: usize, d: usize, e: usize
 }
 
 // Questions 1 to 15, with 50, then 20 of the lengths of the rows: the number of the first no, or what the job holds.
-pub(super) fn read_and_enough(job: &[u8], a: usize, b: usize, c: usize, d: usize, e: usize) -> Read
+pub fn read_and_enough(job: &[u8], a: usize, b: usize, c: usize, d: usize, e: usize) -> Read
     ensures { λ r. ⌜ paperRead r ≡ firstAsked (now (job .entry))
         (every (λ x. leb (inUse (jobOf (now (job .entry))) x) (gathered a b c d e x))) ⌝ }
 {
@@ -40,7 +45,7 @@ pub(super) fn read_and_enough(job: &[u8], a: usize, b: usize, c: usize, d: usize
 }
 
 // Question 21.
-pub(super) fn within_limit(done: u64, count: u64) -> bool
+pub fn within_limit(done: u64, count: u64) -> bool
     ensures { λ r. ⌜ r ≡ withinLimit done count ⌝ }
 {
     if done <= LIMIT {
@@ -48,4 +53,24 @@ pub(super) fn within_limit(done: u64, count: u64) -> bool
     } else {
         false
     }
+}
+
+// Question 22; e stands for the spare, which it does not ask about.
+pub fn acceptable(
+    job: &[u8],
+    n: usize,
+    heads: &[f64],
+    flows: &[f64],
+    highest: &[f64],
+    lowest: &[f64],
+) -> bool
+    requires { ⌜ (Accepted (now job)) × (n ≡ sections (jobOf (now job))) ⌝ }
+    requires { ⌜ (n ≤ length (now heads)) × (n ≤ length (now flows))
+        × (n ≤ length (now highest)) × (n ≤ length (now lowest)) ⌝ }
+    ensures { λ r. ⌜ ((e : List Float) → let j = jobOf (now (job .entry)) in
+        r ≡ acceptable j (stateIn j (gathered (now (heads .entry)) (now (flows .entry))
+        (now (highest .entry)) (now (lowest .entry)) e))) ⌝ }
+{
+    let initial = job::tables::initial(job);
+    section::acceptable(initial, n, heads, flows, highest, lowest)
 }

@@ -1,4 +1,4 @@
--- `surge::questions::read_and_enough` meets its contract: what `read` answers decides, and question 20 where it is a yes. Assumes nothing.
+-- `call_questions::read_and_enough` meets its contract: what `read` answers decides, and question 20 where it is a yes. Assumes nothing.
 use mathlib.Core.Path.{_≡_, sym, ap, ap₂, _∙_}
 use borrow.Author.Needs.{needs}
 use borrow.Author.Tests.{eq-eqb, ne-eqb}
@@ -8,9 +8,9 @@ use Rattle.job.specs.Questions.{refusal, Accepted}
 use Rattle.reader.specs.Answer.{paperRead, accepted}
 use Rattle.reader.proofs.AnswerLaws.{refused-is, accepted-is}
 use Rattle.loops.proofs.Tests.{is-yes, is-no}
-use Rattle.surge.specs.Opening.{firstAsked}
-use Rattle.surge.proofs.questions.read_and_enough.Statement.{statement}
-use Rattle.surge.proofs.questions.read_and_enough.Tie as tie
+use Rattle.call_questions.specs.Opening.{firstAsked}
+use Rattle.call_questions.proofs.read_and_enough.Statement.{statement}
+use Rattle.call_questions.proofs.read_and_enough.Tie as tie
 
 -- the function's entry
 abbrev start : tie.After-read → tie.Start

@@ -1,8 +1,8 @@
--- `surge::questions::enough` meets its contract: the comparison for each row, all of them. Assumes nothing.
+-- `call_questions::enough` meets its contract: the comparison for each row, all of them. Assumes nothing.
 use borrow.Author.Needs.{needs}
-use Rattle.surge.proofs.CallLaws.{enough-asked}
-use Rattle.surge.proofs.questions.enough.Statement.{statement}
-use Rattle.surge.proofs.questions.enough.Tie as tie
+use Rattle.call_questions.proofs.EnoughAsked.{enough-asked}
+use Rattle.call_questions.proofs.enough.Statement.{statement}
+use Rattle.call_questions.proofs.enough.Tie as tie
 
 returns : tie.Need-returns
 returns c =

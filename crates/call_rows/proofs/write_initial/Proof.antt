@@ -1,11 +1,11 @@
--- `surge::state::write_initial` meets its contract: a turn stores one entry of each row. Assumes nothing.
+-- `call_rows::write_initial` meets its contract: a turn stores one entry of each row. Assumes nothing.
 use Prim.Native.Nat.{_-_}
 use native.Mathlib.Omega.{arith}
 use borrow.Author.Needs.{needs}
 use Rattle.loops.proofs.Fill.{Upto, upto-none, upto-step, upto-done}
 use Rattle.job.specs.TableEntries.{initialOf}
-use Rattle.surge.proofs.state.write_initial.Statement.{statement}
-use Rattle.surge.proofs.state.write_initial.Tie as tie
+use Rattle.call_rows.proofs.write_initial.Statement.{statement}
+use Rattle.call_rows.proofs.write_initial.Tie as tie
 
 abbrev Inv-loop : tie.InvT-loop
 Inv-loop initial n heads₀ flows₀ highest₀ lowest₀ s₀ heads flows highest lowest s =

@@ -1,8 +1,8 @@
--- `surge::questions::within_limit` meets its contract: within the limit by both of its halves, beyond it by the first. Assumes nothing.
+-- `call_questions::within_limit` meets its contract: within the limit by both of its halves, beyond it by the first. Assumes nothing.
 use borrow.Author.Tests.{le-leb, lt-leb}
 use Rattle.recurrence.specs.Run.{withinLimit}
-use Rattle.surge.proofs.questions.within_limit.Statement.{statement}
-use Rattle.surge.proofs.questions.within_limit.Tie as tie
+use Rattle.call_questions.proofs.within_limit.Statement.{statement}
+use Rattle.call_questions.proofs.within_limit.Tie as tie
 
 returns : tie.Need-returns
 unfolding withinLimit

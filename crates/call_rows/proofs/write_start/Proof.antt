@@ -1,12 +1,12 @@
--- `surge::state::write_start` meets its contract: table 4 has the initial heads and flows of the job's sections. Assumes nothing.
+-- `call_rows::write_start` meets its contract: table 4 has the initial heads and flows of the job's sections. Assumes nothing.
 use native.Mathlib.Omega.{arith}
 use borrow.Author.Needs.{needs}
 use Rattle.job.specs.Job.{initialAt}
 use Rattle.job.specs.Format.{jobOf}
 use Rattle.job.proofs.Accepted.{initial-length, initial-fits}
 use Rattle.pipe_ends.proofs.Acceptance.{pairs-accepted}
-use Rattle.surge.proofs.state.write_start.Statement.{statement}
-use Rattle.surge.proofs.state.write_start.Tie as tie
+use Rattle.call_rows.proofs.write_start.Statement.{statement}
+use Rattle.call_rows.proofs.write_start.Tie as tie
 
 -- the function's entry
 abbrev entry : tie.After-slice-known4 → tie.Start

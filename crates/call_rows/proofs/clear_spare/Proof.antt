@@ -1,12 +1,12 @@
--- `surge::state::clear_spare` meets its contract: the spare is cleared by the count of pipes. Assumes nothing.
+-- `call_rows::clear_spare` meets its contract: the spare is cleared by the count of pipes. Assumes nothing.
 use mathlib.Core.Path.{_≡_}
 use Prim.Native.Nat.{ℕ, _*_}
 use native.Mathlib.Omega.{arith}
 use Rattle.fields.specs.Real.{zero64}
 use Rattle.loops.specs.Fill.{fill}
 use borrow.Author.Needs.{needs}
-use Rattle.surge.proofs.state.clear_spare.Statement.{statement}
-use Rattle.surge.proofs.state.clear_spare.Tie as tie
+use Rattle.call_rows.proofs.clear_spare.Statement.{statement}
+use Rattle.call_rows.proofs.clear_spare.Tie as tie
 
 clear-row-requires : tie.Need-clear-row-requires
 clear-row-requires c κs = omega (arith, c .before .pipe-count .ensures .0, c .before .before .before .before .pre .1)
