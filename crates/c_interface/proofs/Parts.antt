@@ -1,11 +1,13 @@
 -- The parts of a packed answer are those it was packed from, where they are in range, by division with rest; and a call whose answer is packed gives the
 -- packed answer and the rows of the call that it equals. Assumes nothing.
 use mathlib.Core.Path.{_≡_, refl, _∙_, sym, ap}
-use Prim.Native.Nat.{ℕ, _<_}
+use mathlib.Core.List.{List}
+use Prim.Native.Nat.{ℕ, _<_, _≤_}
 use native.Mathlib.Omega.{arith}
 use Rattle.recurrence.specs.Calls.{Called}
 use lib.Ieee.{Float}
 use Rattle.setting.specs.Setting as Set
+use Rattle.setting.proofs.Laws.{Tells, tells}
 use Rattle.c_interface.specs.Packed.{packed, numberIn, sectionIn, stepsIn, packedAnswer, packedSetting, coefficientLeft}
 
 pub record Parts (number section steps : ℕ) : Type 0 where
@@ -29,12 +31,19 @@ packed-setting held f a e l =
     let same = sym a ∙ ap (λ (x : Set.Called). x .answer) f in
     (e ∙ ap packedSetting same, ap (λ (x : Set.Called). x .heads) f, ap (λ (x : Set.Called). x .flows) f, l ∙ ap (λ (x : Set.Answer). coefficientLeft x held) same)
 
--- the three kinds of that answer are told apart by its number: 0 is no question's, and no question has a number above 52
-pub record ToldApart (n : ℕ) (a : Float) : Type 0 where
-  pub refusal : numberIn (packedSetting (Set.refused n)) ≡ n
-  pub no-coefficient : numberIn (packedSetting Set.none) ≡ 255
-  pub set : numberIn (packedSetting (Set.coefficient a)) ≡ 0
+-- The three kinds of that answer are told apart by its number: a refusal has its own, from 1 to 52, 'none' 255, a coefficient 0.
+abbrev Told : Set.Answer → ℕ → Type 0
+Told (Set.refused q) n = (n ≡ q) × (1 ≤ n) × (n ≤ 52)
+Told Set.none n = n ≡ 255
+Told (Set.coefficient a) n = n ≡ 0
 
-pub told-apart : (n : ℕ) (a : Float) → n < 256 → ToldApart n a
+pub told-apart :
+    (bytes : List ℕ) (L Q : Float) (heads flows : List Float)
+    → let answer = Set.setValve bytes L Q heads flows .answer in Told answer (numberIn (packedSetting answer))
 unfolding packedSetting packed numberIn
-told-apart n a l = record { refusal = omega (arith, l); no-coefficient = refl; set = refl }
+told-apart bytes L Q heads flows = go (Set.setValve bytes L Q heads flows .answer) (tells bytes L Q heads flows)
+  where
+    go : (x : Set.Answer) → Tells bytes L Q heads flows x → Told x (numberIn (packedSetting x))
+    go (Set.refused q) t = (omega (arith, t), omega (arith, t), omega (arith, t))
+    go Set.none t = refl
+    go (Set.coefficient a) t = refl

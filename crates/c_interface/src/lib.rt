@@ -98,7 +98,8 @@ pub extern "C" fn vintuqay_set_valve(
     flows: &mut [f64],
     coefficient: &mut f64,
 ) -> u64
-    ensures { λ r. ⌜ (let call = setValve (now (job .entry)) level discharge (now (heads .entry)) (now (flows .entry)) in
+    ensures { λ r. ⌜ (let call =
+        setValve (now (job .entry)) level discharge (now (heads .entry)) (now (flows .entry)) in
         (r ≡ packedSetting (call .answer)) × (now (heads .exit) ≡ call .heads) × (now (flows .exit) ≡ call .flows)
         × (now (coefficient .exit) ≡ coefficientLeft (call .answer) (now (coefficient .entry)))) ⌝ }
 {

@@ -1,4 +1,5 @@
--- The tests of a chain, of the tables that a job is read from. Assumes nothing.
+-- The tests of a chain, of the tables that a job is read from: a kind is told by its number, each record is read at its own place, and of three tests the first no
+-- decides. Assumes nothing.
 use mathlib.Core.Path.{_≡_, refl, sym, ap, ap₂, _∙_}
 use mathlib.Core.Bool.{Bool, true, false, cond, _&&_}
 use mathlib.Core.List.{List}

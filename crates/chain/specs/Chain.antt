@@ -49,7 +49,7 @@ nodeFits last i n =
     (cond (eqb i last) (isValve (n .kind))
     (isJunction (n .kind) && allZero (n .schedule)))
 
--- ---- "a chain": with n pipes it has the nodes 0 to n
+-- ---- "a chain": with n pipes it has the nodes 0 to n. A record without a pipe would need no valve; no accepted job is such.
 
 unfoldable pub isChain : Job → Bool
 isChain j =

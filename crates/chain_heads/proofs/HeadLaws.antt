@@ -12,7 +12,7 @@ use lib.Ieee.{Float}
 use Rattle.fields.specs.Real.{zero64}
 use Rattle.loops.specs.Loops.{allBelow, listed}
 use Rattle.loops.specs.Fill.{fill}
-use Rattle.loops.proofs.All.{all-join, all-cong}
+use Rattle.loops.proofs.All.{all-next, all-join, all-cong}
 use Rattle.loops.proofs.Fill.{fill-cong, filled-more}
 use Rattle.loops.proofs.Listed.{length-listed, getD-listed}
 use Rattle.job.specs.Job.{Job, Laid, laid, sections, frictionAt, initialAt, floorAt}
@@ -39,8 +39,7 @@ along-more S R Q H i h n = rw (add-one i) (n ∙ rw h)
 pub asked-more :
     (floor at : ℕ → Float) {head : Float} {a b : Bool} (i : ℕ) → head ≡ at i → a ≡ allBelow (λ k. headFits (floor k) (at k)) i → b ≡ headFits (floor i) head
     → a && b ≡ allBelow (λ k. headFits (floor k) (at k)) (i + 1)
-unfolding allBelow
-asked-more floor at i h e d = rw (add-one i) (ap₂ _&&_ e (d ∙ ap (headFits (floor i)) h))
+asked-more floor at i h e d = all-next (λ k. headFits (floor k) (at k)) i e (d ∙ ap (headFits (floor i)) h)
 
 -- ---- R and the floors, as they are read from the tables
 

@@ -172,3 +172,12 @@ not-above-trans (inf false) (fin t n d) (fin u k g) w p q = refl
 not-above-trans (fin s m e) (fin t n d) nan w p q = refl
 not-above-trans (fin s m e) (fin t n d) (inf u) w p q = q
 not-above-trans (fin s m e) (fin t n d) (fin u k g) w p q = falls (m * up e) (down e) (n * up d) (down d) (k * up g) (down g) (down-pos d) s t u p q
+
+-- a value is not above itself
+pub not-above-itself : (x : Float) → lt x x ≡ false
+unfolding lt
+not-above-itself nan = refl
+not-above-itself (inf true) = refl
+not-above-itself (inf false) = refl
+not-above-itself (fin true m e) = le-ltb (m * up e * down e) (m * up e * down e) (le-refl _)
+not-above-itself (fin false m e) = le-ltb (m * up e * down e) (m * up e * down e) (le-refl _)

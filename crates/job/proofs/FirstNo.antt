@@ -2,19 +2,24 @@
 use mathlib.Core.Path.{_≡_, refl, sym, _∙_}
 use mathlib.Core.Bool.{Bool, true, false, cond, not, _&&_}
 use mathlib.Core.List.{List, [], _∷_, _++_}
-use Prim.Native.Nat.{ℕ, suc}
+use Prim.Native.Nat.{ℕ, suc, _≤_}
 use native.Mathlib.Omega.{arith}
-use lib.Dec.{eqb}
-use borrow.Author.Tests.{eqb-true, eqb-false, eq-eqb, ne-eqb}
+use lib.Dec.{eqb, leb}
+use borrow.Author.Tests.{eqb-true, eqb-false, eq-eqb, ne-eqb, leb-true}
+use Rattle.loops.proofs.Tests.{both, cond-all}
 use Rattle.job.specs.Questions.{Question, firstNo, pairQuestions, pipeQuestions, nodeQuestions, valueQuestions, questions, refusal, Accepted}
 
 -- m, and n where m is 0
 abbrev pub orElse : ℕ → ℕ → ℕ
 orElse m n = cond (eqb m 0) n m
 
+-- whether every number of a table passes a test; and that none of them is 0
+abbrev eachNumber : (ℕ → Bool) → List Question → Bool
+eachNumber p [] = true
+eachNumber p (q ∷ qs) = p (q .0) && eachNumber p qs
+
 abbrev numbered : List Question → Bool
-numbered [] = true
-numbered (q ∷ qs) = not (eqb (q .0) 0) && numbered qs
+numbered qs = eachNumber (λ n. not (eqb n 0)) qs
 
 first-join : (xs ys : List Question) (job : List ℕ) → numbered xs ≡ true → firstNo (xs ++ ys) job ≡ orElse (firstNo xs job) (firstNo ys job)
 unfolding firstNo
@@ -68,3 +73,14 @@ none-refused job h =
 pub yes : (t : Bool) (n m : ℕ) → cond t m (suc n) ≡ 0 → (t ≡ true) × (m ≡ 0)
 yes true n m h = (refl, h)
 yes false n m h = absurd (omega arith)
+
+-- what holds of 0 and of every number of a table holds of the number of its first no
+number-all : (p : ℕ → Bool) → p 0 ≡ true → (qs : List Question) (job : List ℕ) → eachNumber p qs ≡ true → p (firstNo qs job) ≡ true
+unfolding firstNo
+number-all p z [] job h = z
+number-all p z (q ∷ qs) job h =
+    let parts = both (p (q .0)) (eachNumber p qs) h in cond-all (λ (n : ℕ). p n ≡ true) (q .1 job) (number-all p z qs job (parts .1)) (parts .0)
+
+pub refusal-most : (job : List ℕ) → refusal job ≤ 50
+unfolding refusal questions pairQuestions pipeQuestions nodeQuestions valueQuestions
+refusal-most job = leb-true _ _ (number-all (λ n. leb n 50) refl questions job refl)

@@ -1,5 +1,5 @@
 -- A loop that asks a test of 0, 1, .., and stops at the first that fails it: whether `p` holds of every number below n.
--- In a loop:  all-none, all-more   what has passed so far;  all-stop   the answer where one fails
+-- In a loop:  all-none, all-more   what has passed so far;  all-stop   the answer where one fails;  all-next   the answer so far, where it goes on
 -- Of the answer:  all-at, all-of, all-no;  all-both   of two tests;  all-cong   of tests that agree;  all-join   of two ranges, one after the other
 -- Assumes nothing.
 use mathlib.Core.Path.{_≡_, refl, sym, ap₂}
@@ -41,6 +41,11 @@ module _ (p : ℕ → Bool) where
   pub all-more : {n : ℕ} → allBelow p n ≡ true → p n ≡ true → allBelow p (n + 1) ≡ true
   unfolding allBelow
   all-more {n} h e = rw (add-one n, h, e)
+
+  -- of a loop that goes on after a no: what all before have given, and the next
+  pub all-next : {a b : Bool} (n : ℕ) → a ≡ allBelow p n → b ≡ p n → a && b ≡ allBelow p (n + 1)
+  unfolding allBelow
+  all-next n e d = rw (add-one n) (ap₂ _&&_ e d)
 
   pub all-stop : (i n : ℕ) → i < n → p i ≡ false → allBelow p n ≡ false
   unfolding allBelow

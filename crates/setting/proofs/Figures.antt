@@ -31,7 +31,7 @@ coefficient-figures = record {
   job-Q-valve = refl;
   b-below-zero = refl;
   rounded = refl;
-  level = refl;
+  at-b = refl;
   b-of-last = refl;
 }
 

@@ -1,4 +1,4 @@
--- The list of a chain's heads has an entry for each section. Assumes nothing.
+-- The list of a chain's heads has an entry for each section: a pipe of n reaches gives n + 1. Assumes nothing.
 use mathlib.Core.Path.{_≡_, refl, sym, ap₂, subst, _∙_}
 use mathlib.Core.List.{List, [], _∷_}
 use Prim.Native.Nat.{ℕ, suc, _+_}

@@ -1,14 +1,14 @@
--- The three laws of the call that sets a valve. 'None' is the answer where one of five tests fails, each of which is one of the causes; the rows that are written
--- begin with the heads, which never rise, and with Q. Assumes nothing.
+-- The three laws of the call that sets a valve. 'None' is the answer where one of five tests fails: that of the heads by one of two causes, each other by its own.
+-- The rows that are written begin with the heads, which never rise, and with Q. Assumes nothing.
 use mathlib.Core.Path.{_≡_, refl, sym, ap, subst, _∙_}
 use mathlib.Core.Bool.{Bool, true, false, not, cond, _&&_, true≢false}
-use mathlib.Core.List.{List, _++_}
+use mathlib.Core.List.{List}
 use mathlib.Core.Option.{some}
 use Prim.Native.Nat.{ℕ, _+_, _-_, _/_, _<_, _≤_}
 use native.Mathlib.Omega.{arith}
-use borrow.Author.Tests.{eq-eqb, eqb-true, not-true}
+use borrow.Author.Tests.{eq-eqb, eqb-true, eqb-false, not-true}
 use lib.Dec.{T, eqb}
-use lib.ListN.{length, getElem?, getD, drop, replicate, List·getD-append, length-replicate, getD-replicate}
+use lib.ListN.{length, getElem?, getD, replicate, List·getD-append, length-replicate, getD-replicate}
 use lib.Ieee.{Float, binary64, ofBits, fits, lt}
 use lib.Ieee.Scale.{finite}
 use Rattle.fields.specs.Real.{_⊟_, zero64}
@@ -19,12 +19,13 @@ use Rattle.loops.proofs.Listed.{getD-all, listed-some}
 use Rattle.job.specs.Job.{Pipe, Job, laid, sections, frictionAt, floorAt}
 use Rattle.job.specs.Format.{frictionTable, pipeTable, pipeCount, pipeIn, pipesIn, rIn, frictionIn, jobOf}
 use Rattle.job.specs.Questions.{refusal, Accepted, rFits}
+use Rattle.job.proofs.FirstNo.{refusal-most}
 use Rattle.job.proofs.SectionLaws.{r-fits}
 use Rattle.job.proofs.Accepted.{friction-fits, constant-fits}
-use Rattle.setting.specs.Setting.{headsOf, headAt, lastHead, outletHead, coefficientFor, headFits, isGiven, Answer, refused, none, coefficient, Called, settled, isChainWith, rowsHold, setValve}
-use Rattle.setting.specs.Laws.{Asked, Cause, flow-not-above-zero, head-below-floor, head-not-above-outlet, head-not-finite, difference-not-finite, coefficient-not-finite, WhereGiven, SettingLaws}
+use Rattle.setting.specs.Setting.{headsOf, headAt, lastHead, outletHead, coefficientFor, headFits, isGiven, Answer, refused, none, coefficient, Called, written, kept, setOrNone, isChainWith, rowsHold, setValve}
+use Rattle.setting.specs.Laws.{EveryYes, CauseOfNone, flow-not-above-zero, head-below-floor, head-not-above-outlet, head-not-finite, difference-not-finite, coefficient-not-finite, WhereGiven, SettingLaws}
 use Rattle.setting.proofs.HeadList.{heads-length}
-use Rattle.setting.proofs.NeverRising.{heads-fall, any-two}
+use Rattle.setting.proofs.NeverRising.{heads-not-rising, any-two}
 
 -- ---- the answer, test by test
 
@@ -32,40 +33,34 @@ module _ (bytes : List ℕ) (L Q : Float) (heads flows : List Float) where
   abbrev j : Job
   j = jobOf bytes
 
-  abbrev no : ℕ → Called
-  no q = record { heads = heads; flows = flows; answer = refused q }
-
-  -- the rows with the heads and Q in them
-  abbrev written : Called
-  written = record {
-    heads = headsOf j L Q ++ drop (sections j) heads;
-    flows = replicate (sections j) Q ++ drop (sections j) flows;
-    answer = coefficient (coefficientFor Q (lastHead j L Q) (outletHead j));
-  }
-
   -- the call by the four tests that decide it
   abbrev callBy : Bool → Bool → Bool → Bool → Called
   callBy accepted chain rows given =
-      cond accepted (cond chain (cond rows (cond given written (record { heads = heads; flows = flows; answer = none })) (no 52)) (no 51)) (no (refusal bytes))
+      cond accepted
+      (cond chain
+      (cond rows (cond given (written j L Q heads flows) (kept heads flows none)) (kept heads flows (refused 52)))
+      (kept heads flows (refused 51)))
+      (kept heads flows (refused (refusal bytes)))
 
   call-is : setValve bytes L Q heads flows ≡ callBy (eqb (refusal bytes) 0) (isChainWith j L Q) (rowsHold j heads flows) (isGiven j L Q)
-  unfolding setValve settled
+  unfolding setValve setOrNone
   call-is = refl
 
   pub record AllYes (given : Bool) : Type 0 where
-    pub asked : Asked bytes L Q heads flows
+    pub asked : EveryYes bytes L Q heads flows
     pub verdict : isGiven j L Q ≡ given
 
   all-yes : (b : Bool) → eqb (refusal bytes) 0 ≡ true → isChainWith j L Q ≡ true → rowsHold j heads flows ≡ true → isGiven j L Q ≡ b → AllYes b
   all-yes b x y z w = record { asked = record { accepted = eqb-true _ _ x; chain = y; rows = z }; verdict = w }
 
-  -- what an answer tells of the tests: nothing where it is a refusal
-  abbrev Tells : Answer → Type 0
-  Tells (refused q) = Unit {0}
+  -- what an answer tells: of the tests, or of the number of a refusal
+  abbrev pub Tells : Answer → Type 0
+  Tells (refused q) = (1 ≤ q) × (q ≤ 52)
   Tells none = AllYes false
   Tells (coefficient a) = AllYes true
 
-  tells : Tells (setValve bytes L Q heads flows .answer)
+  pub tells : Tells (setValve bytes L Q heads flows .answer)
+  unfolding written kept
   tells =
       subst (λ (c : Called). Tells (c .answer)) (sym call-is)
       (go (eqb (refusal bytes) 0) refl (isChainWith j L Q) refl (rowsHold j heads flows) refl (isGiven j L Q) refl)
@@ -74,12 +69,12 @@ module _ (bytes : List ℕ) (L Q : Float) (heads flows : List Float) where
           → Tells (callBy x y z w .answer)
       go true ex true ey true ez true ew = all-yes true ex ey ez ew
       go true ex true ey true ez false ew = all-yes false ex ey ez ew
-      go true ex true ey false ez w ew = tt
-      go true ex false ey z ez w ew = tt
-      go false ex y ey z ez w ew = tt
+      go true ex true ey false ez w ew = (omega arith, omega arith)
+      go true ex false ey z ez w ew = (omega arith, omega arith)
+      go false ex y ey z ez w ew = let no : refusal bytes ≡ 0 → ⊥ = eqb-false _ _ ex in (omega (arith, no), omega (arith, refusal-most bytes))
 
   -- the call where every question has a yes
-  call-where : (b : Bool) → AllYes b → setValve bytes L Q heads flows ≡ cond b written record { heads = heads; flows = flows; answer = none }
+  call-where : (b : Bool) → AllYes b → setValve bytes L Q heads flows ≡ cond b (written j L Q heads flows) (kept heads flows none)
   call-where b y = call-is ∙ rw (eq-eqb (refusal bytes) 0 (y .asked .accepted), y .asked .chain, y .asked .rows, y .verdict)
 
 -- ---- the causes
@@ -94,21 +89,21 @@ module _ (j : Job) (L Q : Float) where
   abbrev b : Float
   b = outletHead j
 
-  one-head : (s : ℕ) → s < sections j → test s ≡ false → Cause j L Q
+  one-head : (s : ℕ) → s < sections j → test s ≡ false → CauseOfNone j L Q
   unfolding headFits
   one-head s l e = go (finite (headAt j L Q s)) refl (lt (headAt j L Q s) (floorAt j s)) refl e
     where
-      go : (x : Bool) → finite (headAt j L Q s) ≡ x → (y : Bool) → lt (headAt j L Q s) (floorAt j s) ≡ y → x && not y ≡ false → Cause j L Q
+      go : (x : Bool) → finite (headAt j L Q s) ≡ x → (y : Bool) → lt (headAt j L Q s) (floorAt j s) ≡ y → x && not y ≡ false → CauseOfNone j L Q
       go true ex true ey e = head-below-floor s l ey
       go true ex false ey e = absurd (true≢false e)
       go false ex y ey e = head-not-finite s l ex
 
-  one-cause : isGiven j L Q ≡ false → Cause j L Q
+  one-cause : isGiven j L Q ≡ false → CauseOfNone j L Q
   unfolding isGiven
   one-cause h = go (lt zero64 Q) refl (allBelow test (sections j)) refl (lt b H) refl (finite (H ⊟ b)) refl (finite (coefficientFor Q H b)) refl h
     where
       go : (q : Bool) → lt zero64 Q ≡ q → (f : Bool) → allBelow test (sections j) ≡ f → (o : Bool) → lt b H ≡ o → (d : Bool) → finite (H ⊟ b) ≡ d
-          → (a : Bool) → finite (coefficientFor Q H b) ≡ a → q && f && o && d && a ≡ false → Cause j L Q
+          → (a : Bool) → finite (coefficientFor Q H b) ≡ a → q && f && o && d && a ≡ false → CauseOfNone j L Q
       go false eq f ef o eo d ed a ea e = flow-not-above-zero eq
       go true eq false ef o eo d ed a ea e = let one = all-no test (sections j) ef in one-head (one .0) (one .1 .0) (one .1 .1)
       go true eq true ef false eo d ed a ea e = head-not-above-outlet eo
@@ -144,7 +139,7 @@ module _ (j : Job) (L Q : Float) where
       }
 
   -- no cause goes with a coefficient
-  no-cause : Cause j L Q → Yes → ⊥
+  no-cause : CauseOfNone j L Q → Yes → ⊥
   no-cause (flow-not-above-zero e) y = true≢false (sym (y .flow) ∙ e)
   no-cause (head-below-floor s l e) y = true≢false (sym e ∙ y .heads s l .1)
   no-cause (head-not-above-outlet e) y = true≢false (sym (y .above) ∙ e)
@@ -152,7 +147,7 @@ module _ (j : Job) (L Q : Float) where
   no-cause (difference-not-finite e) y = true≢false (sym (y .difference) ∙ e)
   no-cause (coefficient-not-finite e) y = true≢false (sym (y .coefficient) ∙ e)
 
-  not-given : Cause j L Q → isGiven j L Q ≡ false
+  not-given : CauseOfNone j L Q → isGiven j L Q ≡ false
   not-given c = go (isGiven j L Q) refl
     where
       go : (t : Bool) → isGiven j L Q ≡ t → t ≡ false
@@ -178,7 +173,7 @@ module _ (bytes : List ℕ) (ok : Accepted bytes) where
 
 module _ (bytes : List ℕ) (L Q : Float) (heads flows : List Float) (y : AllYes bytes L Q heads flows true) where
   head-written : (s : ℕ) → s < sections (jobOf bytes) → getD (setValve bytes L Q heads flows .heads) s zero64 ≡ headAt (jobOf bytes) L Q s
-  unfolding headAt
+  unfolding headAt written
   head-written s l =
       ap (λ (x : Called). getD (x .heads) s zero64) (call-where bytes L Q heads flows true y)
       ∙ List·getD-append (headsOf (jobOf bytes) L Q) _ zero64 s (omega (arith, heads-length (jobOf bytes) L Q))
@@ -191,13 +186,13 @@ module _ (bytes : List ℕ) (L Q : Float) (heads flows : List Float) (y : AllYes
       let to : s + (t - s) ≡ t = omega arith in
       let long = heads-length (jobOf bytes) L Q in
       rw to at (any-two (headsOf (jobOf bytes) L Q) L
-      (heads-fall Q (given .flow) (jobOf bytes) (no-friction-below bytes ok) (jobOf bytes .pipes) 0 0 L (each-constant-above bytes ok) f)
+      (heads-not-rising Q (given .flow) (jobOf bytes) (no-friction-below bytes ok) (jobOf bytes .pipes) 0 0 L (each-constant-above bytes ok) f)
       (λ i b. given .heads i (omega (arith, long)) .0) s (t - s) (omega (arith, long)))
 
 -- ---- the laws
 
 pub setting-laws : SettingLaws
-unfolding WhereGiven
+unfolding WhereGiven written kept
 setting-laws = record {
   none-exactly = λ bytes L Q heads flows. (
     λ e. let y = subst (Tells bytes L Q heads flows) e (tells bytes L Q heads flows) in (y .asked, one-cause (jobOf bytes) L Q (y .verdict)),

@@ -11,7 +11,7 @@ use lib.Ieee.{Float, nan, binary64, neg, toBits}
 use Rattle.fields.specs.Real.{zero64, infinity64}
 use Rattle.wave.specs.Figures.{_is_, num, tenths, halved, power, bits}
 use Rattle.job.specs.Job.{Pipe, Kind, junction, reservoir, valve, ScheduledNode, Initial, Job, sections}
-use Rattle.setting.specs.Setting.{headAfter, headsOf, lastHead, outletHead, coefficientFor, headFits, isGiven, Answer, refused, none, coefficient, Called, settled}
+use Rattle.setting.specs.Setting.{headAfter, headsOf, lastHead, outletHead, coefficientFor, headFits, isGiven, Answer, refused, none, coefficient, Called, setOrNone}
 
 -- the greatest f64, and the f64 after one above zero
 abbrev pub greatest : Float
@@ -61,7 +61,7 @@ abbrev pub kept : ℕ → Answer → Called
 kept n answer = record { heads = lentHeads n; flows = lentFlows n; answer = answer }
 
 abbrev pub setFor : Job → Float → Float → Called
-setFor j L Q = settled j L Q (lentHeads (sections j)) (lentFlows (sections j))
+setFor j L Q = setOrNone j L Q (lentHeads (sections j)) (lentFlows (sections j))
 
 -- ---- chains
 
@@ -163,7 +163,7 @@ pub record CoefficientFigures : Type 0 where
   pub b-below-zero : coefficientFor (num 6) (num 5) (neg (num 4)) is num 2
   -- the root cut down, a root of the whole, a product with 1/root, or one rounding fewer, gives other bits
   pub rounded : coefficientFor (tenths 7) (bits 0x401c_7971_e197_1e19) (tenths 24) is bits 0x3fd4_9fba_1cfd_5bc6
-  pub level : coefficientFor (num 4) (num 6) (num 6) is infinity64
+  pub at-b : coefficientFor (num 4) (num 6) (num 6) is infinity64
   pub b-of-last : outletHead two is halved 125 1
 
 -- ---- the verdict, and what is left in the rows
@@ -197,7 +197,7 @@ pub record VerdictFigures : Type 0 where
   pub a-great : setFor (reach (num 0) (num 1)) (above (num 1)) (power 997) ends written (replicate 2 (above (num 1))) (power 997) (power 1023)
   pub a-zero : setFor (reach (num 0) (num 0)) (power 1000) (bits 1) ends written (replicate 2 (power 1000)) (bits 1) (num 0)
   -- rows just long enough
-  pub just-enough : settled (reach (num 0) (num 6)) (num 10) (num 4) (num 7 ∷ num 7 ∷ []) (num 8 ∷ num 8 ∷ []) ends record { heads = num 10 ∷ num 10 ∷ []; flows = num 4 ∷ num 4 ∷ []; answer = coefficient (num 2) }
+  pub just-enough : setOrNone (reach (num 0) (num 6)) (num 10) (num 4) (num 7 ∷ num 7 ∷ []) (num 8 ∷ num 8 ∷ []) ends record { heads = num 10 ∷ num 10 ∷ []; flows = num 4 ∷ num 4 ∷ []; answer = coefficient (num 2) }
   -- several pipes: b = 8 and H = 12; b = 62.5 and H = 87.5; decimals
   pub one-node : setFor across (num 20) (num 2) ends written (num 20 ∷ num 16 ∷ num 16 ∷ num 12 ∷ []) (num 2) (num 1)
   pub two-pipes : setFor two (num 100) (num 2) ends written twoHeads (num 2) (tenths 4)

@@ -87,16 +87,20 @@ pub record Called : Type 0 where
   pub flows : List Float
   pub answer : Answer
 
--- "Two lent rows receive the heads and, at every section, the flow Q, only when a coefficient is given; otherwise they keep what they held."
-unfoldable pub settled : Job → Float → Float → List Float → List Float → Called
-settled j L Q heads flows =
-    cond (isGiven j L Q)
-    (record {
-      heads = headsOf j L Q ++ drop (sections j) heads;
-      flows = replicate (sections j) Q ++ drop (sections j) flows;
-      answer = coefficient (coefficientFor Q (lastHead j L Q) (outletHead j));
-    })
-    (record { heads = heads; flows = flows; answer = none })
+-- "Two lent rows receive the heads and, at every section, the flow Q, only when a coefficient is given": entries past the section count are left
+unfoldable pub written : Job → Float → Float → List Float → List Float → Called
+written j L Q heads flows = record {
+  heads = headsOf j L Q ++ drop (sections j) heads;
+  flows = replicate (sections j) Q ++ drop (sections j) flows;
+  answer = coefficient (coefficientFor Q (lastHead j L Q) (outletHead j));
+}
+
+-- "Otherwise they keep what they held."
+unfoldable pub kept : List Float → List Float → Answer → Called
+kept heads flows answer = record { heads = heads; flows = flows; answer = answer }
+
+unfoldable pub setOrNone : Job → Float → Float → List Float → List Float → Called
+setOrNone j L Q heads flows = cond (isGiven j L Q) (written j L Q heads flows) (kept heads flows none)
 
 -- 51, "if the layout is no such chain or L or Q is not finite"
 unfoldable pub isChainWith : Job → Float → Float → Bool
@@ -110,9 +114,9 @@ rowsHold j heads flows = leb (sections j) (length heads) && leb (sections j) (le
 unfoldable pub setValve : List ℕ → Float → Float → List Float → List Float → Called
 setValve bytes L Q heads flows =
     let j = jobOf bytes in
-    let no : ℕ → Called = λ q. record { heads = heads; flows = flows; answer = refused q } in
+    let no : ℕ → Called = λ q. kept heads flows (refused q) in
     cond (eqb (refusal bytes) 0)
     (cond (isChainWith j L Q)
-    (cond (rowsHold j heads flows) (settled j L Q heads flows) (no 52))
+    (cond (rowsHold j heads flows) (setOrNone j L Q heads flows) (no 52))
     (no 51))
     (no (refusal bytes))

@@ -18,7 +18,7 @@ use Rattle.job.specs.Job.{Job, sections, floorAt}
 use Rattle.job.specs.Format.{jobOf}
 use Rattle.job.specs.Questions.{refusal, Accepted}
 use Rattle.chain.specs.Chain.{isChain}
-use Rattle.setting.specs.Setting.{headAt, lastHead, outletHead, coefficientFor, headFits, isGiven, refused, none, coefficient, Called, settled, isChainWith, rowsHold, setValve}
+use Rattle.setting.specs.Setting.{headAt, lastHead, outletHead, coefficientFor, headFits, isGiven, refused, none, coefficient, Answer, Called, written, kept, setOrNone, isChainWith, rowsHold, setValve}
 use Rattle.setting.proofs.HeadList.{heads-listed}
 
 -- ---- the verdict
@@ -32,16 +32,16 @@ unfolding isGiven
 verdict-is j L Q told eb ea ex ey = rw (ey, ex, ea, eb, told .1, told .0)
 
 module _ (j : Job) (L Q : Float) (heads flows : List Float) where
-  pub none-left : isGiven j L Q ≡ false → record { heads = heads; flows = flows; answer = none } ≡ settled j L Q heads flows
-  unfolding settled
-  none-left h = rw h
+  pub none-left : {answer : Answer} → isGiven j L Q ≡ false → answer ≡ none → record { heads = heads; flows = flows; answer = answer } ≡ setOrNone j L Q heads flows
+  unfolding setOrNone kept
+  none-left h e = rw (h, e)
 
   module _ (h : sections j ≤ length heads) (f : sections j ≤ length flows) where
     pub set-left :
-        {a : Float} {newHeads newFlows : List Float} → isGiven j L Q ≡ true → newHeads ≡ fill (headAt j L Q) heads 0 (sections j)
-        → newFlows ≡ fill (λ (s : ℕ). Q) flows 0 (sections j) → a ≡ coefficientFor Q (lastHead j L Q) (outletHead j)
-        → record { heads = newHeads; flows = newFlows; answer = coefficient a } ≡ settled j L Q heads flows
-    unfolding settled
+        {answer : Answer} {newHeads newFlows : List Float} → isGiven j L Q ≡ true → newHeads ≡ fill (headAt j L Q) heads 0 (sections j)
+        → newFlows ≡ fill (λ (s : ℕ). Q) flows 0 (sections j) → answer ≡ coefficient (coefficientFor Q (lastHead j L Q) (outletHead j))
+        → record { heads = newHeads; flows = newFlows; answer = answer } ≡ setOrNone j L Q heads flows
+    unfolding setOrNone written
     set-left g e d a =
         rw (g, a)
         (λ i. record {
@@ -57,21 +57,21 @@ module _ (bytes : List ℕ) (L Q : Float) (heads flows : List Float) where
   no q = record { heads = heads; flows = flows; answer = refused q }
 
   pub read-refused : {q : ℕ} → (Accepted bytes → ⊥) → q ≡ refusal bytes → no q ≡ setValve bytes L Q heads flows
-  unfolding setValve
+  unfolding setValve kept
   read-refused n e = rw (ne-eqb (refusal bytes) 0 n, e)
 
   module _ (ok : Accepted bytes) where
     pub no-chain : isChainWith (jobOf bytes) L Q ≡ false → no 51 ≡ setValve bytes L Q heads flows
-    unfolding setValve
+    unfolding setValve kept
     no-chain c = rw (eq-eqb (refusal bytes) 0 ok, c)
 
     module _ (c : isChainWith (jobOf bytes) L Q ≡ true) where
       pub too-short : rowsHold (jobOf bytes) heads flows ≡ false → no 52 ≡ setValve bytes L Q heads flows
-      unfolding setValve
+      unfolding setValve kept
       too-short r = rw (eq-eqb (refusal bytes) 0 ok, c, r)
 
-      pub all-asked : rowsHold (jobOf bytes) heads flows ≡ true → settled (jobOf bytes) L Q heads flows ≡ setValve bytes L Q heads flows
-      unfolding setValve
+      pub all-asked : rowsHold (jobOf bytes) heads flows ≡ true → setOrNone (jobOf bytes) L Q heads flows ≡ setValve bytes L Q heads flows
+      unfolding setValve kept
       all-asked r = rw (eq-eqb (refusal bytes) 0 ok, c, r)
 
 -- question 52, as the code compares the rows' lengths

@@ -1,14 +1,14 @@
 // The valve of a chain, set for a discharge.
 ghost use mathlib.Core.Path.{_≡_};
-ghost use mathlib.Core.Bool.{true};
+ghost use mathlib.Core.Bool.{true, cond};
 ghost use Prim.Native.Nat.{_≤_};
 ghost use lib.ListN.{length};
 ghost use Rattle.job.specs.Job.{sections};
 ghost use Rattle.job.specs.Format.{jobOf};
 ghost use Rattle.job.specs.Questions.{Accepted};
 ghost use Rattle.chain.specs.Chain.{isChain};
-ghost use Rattle.setting.specs.Setting.{outletHead, coefficientFor, isChainWith, settled, setValve};
-ghost use Rattle.valve_setting.specs.Answers.{leaves};
+ghost use Rattle.setting.specs.Setting.{outletHead, coefficientFor, none, coefficient, isChainWith, setOrNone, setValve};
+ghost use Rattle.valve_setting.specs.Answers.{paperSetting, leaves};
 
 mod answer;
 
@@ -32,13 +32,24 @@ fn coefficient_for(q: f64, h: f64, b: f64) -> f64
     q / root::root_of(h - b)
 }
 
-// The setting of an accepted chain, once 51 and 52 have a yes. Nothing is written before the verdict.
-fn settle(job: &[u8], level: f64, q: f64, heads: &mut [f64], flows: &mut [f64]) -> Setting
+// The answer by the verdict.
+fn answer_by(yes: bool, a: f64) -> Setting
+    ensures { λ r. ⌜ paperSetting r ≡ cond yes (coefficient a) none ⌝ }
+{
+    if yes {
+        Setting::Coefficient(a)
+    } else {
+        Setting::Nothing
+    }
+}
+
+// The valve of an accepted chain set, once 51 and 52 have a yes. Nothing is written before the verdict.
+fn set_or_none(job: &[u8], level: f64, q: f64, heads: &mut [f64], flows: &mut [f64]) -> Setting
     requires { ⌜ (Accepted (now job)) × (isChain (jobOf (now job)) ≡ true) ⌝ }
     requires { ⌜ (sections (jobOf (now job)) ≤ length (now heads))
         × (sections (jobOf (now job)) ≤ length (now flows)) ⌝ }
     ensures { λ r. ⌜ leaves heads flows r
-        ≡ settled (jobOf (now (job .entry))) level q (now (heads .entry)) (now (flows .entry)) ⌝ }
+        ≡ setOrNone (jobOf (now (job .entry))) level q (now (heads .entry)) (now (flows .entry)) ⌝ }
 {
     let judged = chain_heads::judge(job, level, q);
     let b = outlet_head(job);
@@ -46,11 +57,11 @@ fn settle(job: &[u8], level: f64, q: f64, heads: &mut [f64], flows: &mut [f64]) 
     let fits = judged.fits;
     let a = coefficient_for(q, h, b);
     let given = (0.0 < q) & fits & (b < h) & fields::is_finite(h - b) & fields::is_finite(a);
-    if !given {
-        return Setting::Nothing;
+    let answer = answer_by(given, a);
+    if given {
+        chain_heads::write(job, level, q, heads, flows);
     }
-    chain_heads::write(job, level, q, heads, flows);
-    Setting::Coefficient(a)
+    answer
 }
 
 // Question 51 of an accepted job.
@@ -78,7 +89,7 @@ pub fn set_valve(job: &[u8], level: f64, q: f64, heads: &mut [f64], flows: &mut 
             if !hold {
                 return Setting::Refused(52);
             }
-            settle(job, level, q, heads, flows)
+            set_or_none(job, level, q, heads, flows)
         }
     }
 }

@@ -87,7 +87,7 @@ static const char *said(uint64_t answer) {
         return "too many steps";
     case VINTUQAY_CHAIN:
         return "no chain, or a number that is not finite";
-    case VINTUQAY_ROW_COUNT:
+    case VINTUQAY_ROW_LENGTH:
         return "a row is too short";
     case VINTUQAY_NONE:
         return "no coefficient";

@@ -33,7 +33,8 @@ enum {
     VINTUQAY_LINE_BYTES = 72     /* the bytes that a listing's line asks for, and those of the longest line */
 };
 
-/* The number of an answer: done, the question that got a no, or a stop. A stop is not a refusal. */
+/* The number of an answer: done, the question that got a no, a stop, or none. Neither a stop nor none is
+ * a refusal. */
 enum vintuqay_answer {
     VINTUQAY_DONE = 0,
 
@@ -65,8 +66,8 @@ enum vintuqay_answer {
     VINTUQAY_LINE_ROOM = 24,     /* is the section below 512 and the slice at least 72 bytes long? */
 
     /* questions to vintuqay_set_valve */
-    VINTUQAY_CHAIN = 51,    /* is the layout a chain, and are the level and the discharge finite? */
-    VINTUQAY_ROW_COUNT = 52, /* do both rows hold the section count? */
+    VINTUQAY_CHAIN = 51,      /* is the layout a chain, and are the level and the discharge finite? */
+    VINTUQAY_ROW_LENGTH = 52, /* do both rows hold the section count? */
 
     /* stops */
     VINTUQAY_NOT_FINITE = 40, /* a head or flow is not finite */
@@ -139,8 +140,9 @@ uint64_t vintuqay_run_on(
  *                    b, or any head, H - b or the coefficient is not finite;
  *   51, 52, or that of another question that got a no.
  * With any answer but 0 heads, flows and *coefficient keep what they held. The level and the discharge
- * are the caller's: the job's schedules, its initial state and the valve's own coefficient have no part
- * in it, but for the zeros of the junctions. `coefficient` points to a double; it is not null.
+ * are the caller's: beyond questions 1 to 15 the job's schedules, its initial heads and flows and the
+ * valve's own coefficient have no part in it, but for the zeros of the junctions. `coefficient` points
+ * to a double, is not null, and lies in no slice lent to the call.
  */
 uint64_t vintuqay_set_valve(
     const uint8_t *job, size_t job_length, double level, double discharge,

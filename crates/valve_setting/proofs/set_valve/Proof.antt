@@ -46,8 +46,8 @@ held c = rows-asked _ _ _ (told (c .before .before .before) .1) refl
 long : (c : tie.Else2) → let a = entry (c .before .before) .args in rowsHold (jobOf (now (a .job))) (now (a .heads)) (now (a .flows)) ≡ true
 long c = is-yes (held (c .before)) (c .if2 .left)
 
-settle-requires : tie.Need-settle-requires
-settle-requires c κs =
+set-or-none-requires : tie.Need-set-or-none-requires
+set-or-none-requires c κs =
     let yes : tie.Else2 = c .before .before in
     let asked = yes .before .before in
     ((accepted asked, chain-first _ _ _ (chained (yes .before))), rows-long _ _ _ (long yes))
@@ -66,9 +66,9 @@ returns-3 c =
 
 returns-4 : tie.Need-returns-4
 returns-4 c =
-    let done : tie.After-settle = c .before .before .before .before in
+    let done : tie.After-set-or-none = c .before .before .before .before in
     let yes : tie.Else2 = done .before .before .before in
-    done .settle .ensures ∙ all-asked _ _ _ _ _ (accepted (yes .before .before)) (chained (yes .before)) (long yes)
+    done .set-or-none .ensures ∙ all-asked _ _ _ _ _ (accepted (yes .before .before)) (chained (yes .before)) (long yes)
 
 pub set-valve-spec : {M : Type 1} → statement M
 set-valve-spec =
@@ -80,7 +80,7 @@ set-valve-spec =
     (λ c κs. told (c .before) .0)
     returns
     returns-2
-    settle-requires
+    set-or-none-requires
     returns-3
     (λ c. search needs)
     (λ c. search needs)

@@ -3,10 +3,12 @@
 use crate::draft::{Draft, DraftNode};
 use crate::lauria;
 use crate::layout::Form;
-use std::f64::consts::PI;
 
+mod pipe_figures;
 mod set_main;
 pub mod timed;
+
+pub use pipe_figures::PipeFigures;
 
 /// A sample job: the name of its file, a line on what it is, and the job.
 pub struct Sample {
@@ -64,7 +66,7 @@ fn of_mains() -> Vec<Sample> {
         ),
         sample(
             "set-main",
-            "A village main of three diameters, its valve set for 40 l/s (set-valve): a run from there stays near rest.",
+            "A village main of three diameters, its valve set for 40 l/s, which is what set-valve makes: a run from there stays near rest.",
             set_main::set_main(),
         ),
         sample(
@@ -131,37 +133,6 @@ pub fn job_q() -> Draft {
         draft.section(10.0, 4.0, 0.0);
     }
     draft
-}
-
-/// A pipe in the engineer's figures, in metres and seconds.
-pub struct PipeFigures {
-    pub gravity: f64,
-    pub wave_speed: f64,
-    pub diameter: f64,
-    /// Darcy's f.
-    pub friction_factor: f64,
-    pub step_time: f64,
-}
-
-impl PipeFigures {
-    pub fn area(&self) -> f64 {
-        PI * self.diameter * self.diameter / 4.0
-    }
-
-    /// S = g·A/a.
-    pub fn s(&self) -> f64 {
-        self.gravity * self.area() / self.wave_speed
-    }
-
-    /// R = f·dt/(2·D·A).
-    pub fn r(&self) -> f64 {
-        self.friction_factor * self.step_time / (2.0 * self.diameter * self.area())
-    }
-
-    /// The head that a steady flow loses along one reach.
-    pub fn loss(&self, flow: f64) -> f64 {
-        self.r() * flow * flow.abs() / self.s()
-    }
 }
 
 /// Speeds or openings from 1 down to 0 in equal parts.

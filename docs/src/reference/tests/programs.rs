@@ -175,7 +175,7 @@ fn set_valve_makes_the_sample_again() {
     assert_eq!(from_text(&printed).unwrap(), draft);
 }
 
-/// Coefficient and initial state are changed, and nothing else; what keeps the run from rest is said.
+/// Coefficient and initial state are changed, and nothing else; what may keep the run from rest is said.
 #[test]
 fn set_valve_leaves_the_schedules() {
     let (text, draft) = set_main();

@@ -4,35 +4,23 @@
 use crate::both::differ;
 use crate::setting::{set_valve, LentToSet, NONE};
 use crate::tally::Tally;
+use foretold::foretold;
 use reference::generate::{
-    chain, chain_of, damaged, damaged_anywhere, damaged_from, edited_anywhere, near_chain, odd,
-    sound, Break, Random, ToSet, CAUSES_TOGETHER,
+    chain, chain_of, damaged, damaged_anywhere, damaged_from, edited_anywhere, odd, sound, Random,
+    ToSet, CAUSES_TOGETHER,
 };
 use reference::layout::Form;
 use reference::reader::{MOST_BYTES, QUESTIONS};
 use reference::samples::timed::longest_jobs;
 
-/// In the order of `Break::ALL`.
-const BREAKS: [&str; 12] = [
-    "no chain: a pipe reversed",
-    "no chain: two pipes exchanged",
-    "no chain: two junctions exchanged",
-    "no chain: a pipe that branches off an earlier node",
-    "no chain: a pipe that ends at a later node",
-    "no chain: a pipe beside another",
-    "no chain: a pipe back to an earlier node",
-    "no chain: two parts",
-    "no chain: the first node no reservoir",
-    "no chain: the last node no valve",
-    "no chain: a node between no junction",
-    "no chain: a draw-off not zero",
-];
-const DAMAGED: &str = "chains damaged for one question, refused by it";
-const DAMAGED_TWO: &str = "chains damaged for two questions, refused by the first";
-const DAMAGED_NO_CHAIN: &str = "jobs of any layout damaged for one question, refused by it";
-const EDITED: &str = "chains edited anywhere";
-const LONGEST: &str = "valves set of jobs of 32,768 bytes";
-const LONGEST_DRAWN: &str = "no chain: of 32,768 bytes, the last draw-off not zero";
+mod breaks;
+mod foretold;
+
+/// By the answer.
+const EDITED_SET: &str = "chains edited anywhere: valves set";
+const EDITED_NONE: &str = "chains edited anywhere: none";
+const EDITED_51: &str = "chains edited anywhere: refused 51";
+const EDITED_REFUSED: &str = "chains edited anywhere: refused by a question to every job";
 
 /// NaNs quiet and signalling, of either sign and several payloads, and the infinities.
 const NOT_FINITE: [u64; 6] = [
@@ -46,10 +34,8 @@ const NOT_FINITE: [u64; 6] = [
 
 /// What must be counted, and how often at least.
 pub fn all() -> Vec<(&'static str, u64)> {
-    let mut counts: Vec<_> = BREAKS.into_iter().map(|way| (way, 100)).collect();
-    counts.extend([(DAMAGED, 16 * 40), (DAMAGED_TWO, 100), (DAMAGED_NO_CHAIN, 16 * 10)]);
-    counts.extend([(EDITED, 1000), (LONGEST, 1), (LONGEST_DRAWN, 1)]);
-    counts
+    let edited = [EDITED_SET, EDITED_NONE, EDITED_51, EDITED_REFUSED];
+    breaks::all().into_iter().chain(edited.map(|case| (case, 20))).collect()
 }
 
 pub fn settings(tally: &mut Tally) {
@@ -57,22 +43,26 @@ pub fn settings(tally: &mut Tally) {
     for place in 0..4000 {
         let most = if place % 8 == 0 { 31 } else { 6 };
         let made = chain_of(&mut random, 1, most, &[]);
-        expect(&made, call(tally, &mut random, &made), 0);
+        call(tally, &mut random, &made);
     }
     for causes in CAUSES_TOGETHER {
         // Those with one cause alone are looked at more closely.
         for _ in 0..if causes.len() == 1 { 600 } else { 60 } {
             let made = chain(&mut random, causes);
-            expect(&made, call(tally, &mut random, &made), NONE);
+            call(tally, &mut random, &made);
         }
     }
-    no_chains(tally, &mut random);
+    breaks::no_chains(tally, &mut random);
     longest(tally, &mut random);
     for _ in 0..150 {
         not_finite(tally, &mut random);
         rows(tally, &mut random);
     }
     refused_jobs(tally, &mut random);
+    edited(tally, &mut random);
+    for _ in 0..300 {
+        foretold(tally, &mut random);
+    }
 }
 
 /// The call with rows of the section count or up to three entries more.
@@ -87,31 +77,13 @@ fn call_lent(tally: &mut Tally, random: &mut Random, made: &ToSet, lengths: [usi
     set_valve(tally, &made.draft.bytes(), made.level, made.discharge, &mut lent)
 }
 
-/// What the job was made for, so that both implementations cannot be wrong in the same way unseen.
+/// What the call was made for, known from its making and not from the reference's answer: a mistake of both is seen.
 fn expect(made: &ToSet, answer: u64, expected: u64) {
     if answer != expected {
         let ToSet { level, discharge, .. } = made;
         let found =
             format!("level {level:?}, discharge {discharge:?}: {answer}, made for {expected}");
         differ("set valve", &made.draft.bytes(), &found);
-    }
-}
-
-/// Each way to be no chain: with long rows and short ones, and with a discharge that would have none.
-fn no_chains(tally: &mut Tally, random: &mut Random) {
-    for (way, name) in Break::ALL.into_iter().zip(BREAKS) {
-        for _ in 0..300 {
-            let mut made = near_chain(random, way);
-            let answer = call(tally, random, &made);
-            expect(&made, answer, 51);
-            let short = [0; 2].map(|_| random.below(made.draft.section_count()));
-            expect(&made, call_lent(tally, random, &made, short), 51);
-            made.discharge = random.pick(&[0.0, -0.0, -1.0]);
-            expect(&made, call(tally, random, &made), 51);
-            made.level = f64::from_bits(random.pick(&NOT_FINITE));
-            expect(&made, call(tally, random, &made), 51);
-            tally.count(name, 1);
-        }
     }
 }
 
@@ -125,12 +97,10 @@ fn longest(tally: &mut Tally, random: &mut Random) {
     }
     assert_eq!(made.draft.byte_count(), MOST_BYTES, "as long as a job may be");
     expect(&made, call(tally, random, &made), 0);
-    tally.count(LONGEST, 1);
     if let Some(draw) = made.draft.nodes[last - 1].schedule.last_mut() {
         *draw = 1e-300;
     }
     expect(&made, call(tally, random, &made), 51);
-    tally.count(LONGEST_DRAWN, 1);
 }
 
 /// Level, discharge or both not finite: 51, before 52 and none.
@@ -154,7 +124,7 @@ fn rows(tally: &mut Tally, random: &mut Random) {
     let given = chain(random, &[]);
     let causes = random.pick(&CAUSES_TOGETHER);
     let none = chain(random, causes);
-    for (made, answer) in [(given, 0), (none, NONE)] {
+    for made in [given, none] {
         let sections = made.draft.section_count();
         let any = random.below(sections);
         for short in [sections - 1, 0, any] {
@@ -165,7 +135,7 @@ fn rows(tally: &mut Tally, random: &mut Random) {
         }
         for lengths in [[0, 0], [0, 3], [3, 0], [2, 1]] {
             let lengths = lengths.map(|more| sections + more);
-            expect(&made, call_lent(tally, random, &made, lengths), answer);
+            call_lent(tally, random, &made, lengths);
         }
     }
 }
@@ -177,25 +147,31 @@ fn refused_jobs(tally: &mut Tally, random: &mut Random) {
             let made = chain(random, &[]);
             let job = damaged_from(random, made.draft.clone(), &[question]);
             refused(tally, random, &made, &job, question);
-            tally.count(DAMAGED, 1);
         }
         for _ in 0..10 {
             let (made, job) = (chain(random, &[]), damaged(random, &[question]));
             refused(tally, random, &made, &job, question);
-            tally.count(DAMAGED_NO_CHAIN, 1);
         }
         for &other in &QUESTIONS[place + 1..] {
             let made = chain(random, &[]);
             let job = damaged_from(random, made.draft.clone(), &[question, other]);
             refused(tally, random, &made, &job, question);
-            tally.count(DAMAGED_TWO, 1);
         }
     }
+}
+
+/// Chains edited anywhere, counted by their answers, and some jobs of any layout.
+fn edited(tally: &mut Tally, random: &mut Random) {
     for place in 0..2000 {
         let made = chain(random, &[]);
         let edited = edited_anywhere(random, made.draft.bytes());
-        any_job(tally, random, &made, &edited);
-        tally.count(EDITED, 1);
+        let case = match any_job(tally, random, &made, &edited) {
+            0 => EDITED_SET,
+            NONE => EDITED_NONE,
+            51 => EDITED_51,
+            _ => EDITED_REFUSED,
+        };
+        tally.count(case, 1);
         let other = match place % 8 {
             0 => sound(random).bytes(),
             1 => odd(random).bytes(),
@@ -203,7 +179,6 @@ fn refused_jobs(tally: &mut Tally, random: &mut Random) {
             _ => continue,
         };
         any_job(tally, random, &made, &other);
-        tally.count("calls to set a valve of jobs of any layout", 1);
     }
 }
 

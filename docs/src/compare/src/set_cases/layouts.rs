@@ -57,7 +57,11 @@ const JUNCTION: ByPlace = [
 ];
 const ONLY_ENTRY: &str = "refused 51: the only draw-off of a junction not zero";
 const LATE_ENTRY: &str = "refused 51: a draw-off past the 255th not zero";
-const LEAST_ENTRY: &str = "refused 51: a draw-off of the least size there is, of either sign";
+/// By its bits: of the least size there is, of either sign.
+const LEAST_ENTRY: [(&str, u64); 2] = [
+    ("refused 51: a draw-off of the least size there is, above zero", 1),
+    ("refused 51: a draw-off of the least size there is, below zero", 1 | 1 << 63),
+];
 
 /// Of a chain, by what is not finite: NaN, plus infinity, minus infinity.
 const LEVEL: [&str; 3] = [
@@ -71,7 +75,7 @@ const DISCHARGE: [&str; 3] = [
     "refused 51: a chain, the discharge minus infinity",
 ];
 const BOTH: &str = "refused 51: a chain, level and discharge not finite";
-const NEITHER: &str = "refused 51: no chain, and level or discharge not finite";
+const LAYOUT_AND_NOT_FINITE: &str = "refused 51: no chain, and level or discharge not finite";
 
 const CHAIN_AND_52: &str = "refused 51 for the level or the discharge, which 52 would refuse too";
 const LAYOUT_AND_52: &str = "refused 51 for the layout, which 52 would refuse too";
@@ -79,12 +83,13 @@ const LEVEL_AND_NONE: &str = "refused 51 for the level, with a discharge not abo
 const LAYOUT_AND_NONE: &str = "refused 51 for the layout, with a discharge not above zero";
 
 pub fn all() -> Vec<&'static str> {
-    let entries = [ONLY_ENTRY, LATE_ENTRY, LEAST_ENTRY];
-    let together = [BOTH, NEITHER, CHAIN_AND_52, LAYOUT_AND_52, LEVEL_AND_NONE, LAYOUT_AND_NONE];
+    let together =
+        [BOTH, LAYOUT_AND_NOT_FINITE, CHAIN_AND_52, LAYOUT_AND_52, LEVEL_AND_NONE, LAYOUT_AND_NONE];
     let mut all = [FORMS, PIPE, ENTRY, JUNCTION, LEVEL, DISCHARGE].concat();
     all.extend([MORE_PIPES, MORE_NODES]);
     all.extend([FIRST, LAST, BETWEEN].concat().into_iter().filter(|case| !case.is_empty()));
-    all.extend(entries);
+    all.extend([ONLY_ENTRY, LATE_ENTRY]);
+    all.extend(LEAST_ENTRY.map(|(case, _)| case));
     all.extend(together);
     all
 }
@@ -100,7 +105,7 @@ pub fn count(tally: &mut Tally, job: &Job, form: usize, call: &Call<'_>, too_sho
     }
     match lack {
         None => count_not_finite(tally, call),
-        Some(_) if !finite => tally.count(NEITHER, 1),
+        Some(_) if !finite => tally.count(LAYOUT_AND_NOT_FINITE, 1),
         Some(lack) => {
             tally.count(FORMS[form], 1);
             count_lack(tally, job, lack);
@@ -164,5 +169,7 @@ fn count_draw_off(tally: &mut Tally, job: &Job, node: usize, entry: usize) {
         tally.count(at_place(JUNCTION, node - 1, junctions), 1);
     }
     tally.count(LATE_ENTRY, u64::from(entry >= 255));
-    tally.count(LEAST_ENTRY, u64::from(schedule[entry].is_subnormal()));
+    for (case, bits) in LEAST_ENTRY {
+        tally.count(case, u64::from(schedule[entry].to_bits() == bits));
+    }
 }

@@ -26,7 +26,7 @@ fn main() -> io::Result<ExitCode> {
     })
 }
 
-/// The text of the job set, and what keeps its run from staying at rest.
+/// The text of the job set, and what may keep its run from staying at rest.
 fn set(arguments: &[String], text: &str) -> Result<(String, Vec<String>), String> {
     let [level, discharge] = numbers(arguments)?;
     let draft = from_text(text)?;
@@ -85,13 +85,13 @@ fn notes(draft: &Draft, level: f64) -> Vec<String> {
     let mut notes = Vec::new();
     if draft.nodes[0].schedule.iter().any(|&scheduled| scheduled != level) {
         notes.push(format!(
-            "node 0: the reservoir's scheduled levels are not all {}, so the run does not stay at rest",
+            "node 0: the reservoir's scheduled levels are not all {}, so the run need not stay at rest",
             number(level)
         ));
     }
     if draft.nodes[last].schedule.iter().any(|&opening| opening != 1.0) {
         notes.push(format!(
-            "node {last}: the valve's openings are not all 1, so the run does not stay at rest"
+            "node {last}: the valve's openings are not all 1, so the run need not stay at rest"
         ));
     }
     notes

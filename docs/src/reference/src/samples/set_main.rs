@@ -1,4 +1,4 @@
-//! A main whose valve is set for its discharge.
+//! A main whose valve is set for its discharge: what the tool `set-valve` makes, as `tests/programs.rs` has it do.
 
 use super::PipeFigures;
 use crate::draft::{Draft, DraftNode};
