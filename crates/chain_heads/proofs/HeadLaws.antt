@@ -44,13 +44,13 @@ asked-more floor at i h e d = all-next (λ k. headFits (floor k) (at k)) i e (d 
 -- ---- R and the floors, as they are read from the tables
 
 module _ (job : List ℕ) where
-  pub along-is :
+  along-is :
       {friction : List ℕ} → friction ≡ frictionTable job → (l : Laid) (Q H : Float)
       → headAlong (l .pipe .S) (λ i. rOf friction (l .firstReach + i)) Q H ≡ headIn (jobOf job) Q l H
   unfolding headIn frictionAt jobOf
   along-is e l Q H = rw e
 
-  pub floors-are : {initial : List ℕ} → initial ≡ initialTable job → (λ s. initialOf initial s .floor) ≡ floorAt (jobOf job)
+  floors-are : {initial : List ℕ} → initial ≡ initialTable job → (λ s. initialOf initial s .floor) ≡ floorAt (jobOf job)
   unfolding floorAt initialAt jobOf
   floors-are e = rw e
 
@@ -79,7 +79,7 @@ module _ (j : Job) (L Q : Float) where
     cut = c .left ∙ ap (headsFrom j Q head) (left-from (laid j) p is)
 
     -- the heads of this pipe
-    pub here : (i : ℕ) → i < suc (l .pipe .reaches) → headAt j L Q (s + i) ≡ headIn j Q l head i
+    here : (i : ℕ) → i < suc (l .pipe .reaches) → headAt j L Q (s + i) ≡ headIn j Q l head i
     unfolding headAt
     here i h =
         let own = listed (suc (l .pipe .reaches)) (headIn j Q l head) in
@@ -89,7 +89,7 @@ module _ (j : Job) (L Q : Float) where
         ∙ getD-listed (suc (l .pipe .reaches)) (headIn j Q l head) i zero64 h
 
     -- past this pipe
-    pub carried-more : Carried (p + 1) (s + l .pipe .reaches + 1) (headIn j Q l head (l .pipe .reaches))
+    carried-more : Carried (p + 1) (s + l .pipe .reaches + 1) (headIn j Q l head (l .pipe .reaches))
     carried-more = record {
       left =
           let n : s + l .pipe .reaches + 1 ≡ s + suc (l .pipe .reaches) = omega arith in
@@ -99,7 +99,7 @@ module _ (j : Job) (L Q : Float) where
     }
 
     -- a test of the heads up to this pipe, and of this pipe's
-    pub tests-more :
+    tests-more :
         (floor : ℕ → Float) {a b : Bool} → a ≡ allBelow (λ k. headFits (floor k) (headAt j L Q k)) s
         → b ≡ allBelow (λ i. headFits (floor (s + i)) (headIn j Q l head i)) (suc (l .pipe .reaches))
         → a && b ≡ allBelow (λ k. headFits (floor k) (headAt j L Q k)) (s + l .pipe .reaches + 1)
@@ -112,7 +112,7 @@ module _ (j : Job) (L Q : Float) where
         ∙ sym (all-join (λ k. headFits (floor k) (headAt j L Q k)) s (suc (l .pipe .reaches))))
 
     -- this pipe's heads, stored one after the other
-    pub stored-here : (row : List Float) → fill (headIn j Q l head) row s (l .pipe .reaches + 1) ≡ fill (λ i. headAt j L Q (s + i)) row s (l .pipe .reaches + 1)
+    stored-here : (row : List Float) → fill (headIn j Q l head) row s (l .pipe .reaches + 1) ≡ fill (λ i. headAt j L Q (s + i)) row s (l .pipe .reaches + 1)
     stored-here row = fill-cong _ _ row s (l .pipe .reaches + 1) (λ i h. sym (here i (omega arith)))
 
 -- ---- past a pipe, as the code has it in hand
