@@ -1,5 +1,5 @@
 // The texts of a listing: the line of a section, the closing line and the whole.
-mod text;
+pub mod text;
 
 use text::put_decimal;
 use text::put_newline;

@@ -11,9 +11,10 @@ use lib.Ieee.{inf, binary64, size, odd, units, fits}
 use lib.Ieee.Digits.{size-lt, size-le, size-reaches}
 use lib.Ieee.Fits.{odd-fits, cond-fits, inf-fits}
 use lib.Ieee.Exact.{units-val}
-use Rattle.root.specs.Whole.{wholeRoot}
-use Rattle.root.specs.Digits.{IsWholeRoot, IsNearestRoot}
-use Rattle.root.proofs.WholeLaws.{whole-root-is, at-most-root, nearest-is, nearest-from, nearest-below}
+use Rattle.whole_root.specs.WholeRoot.{IsWholeRoot, wholeRoot}
+use Rattle.whole_root.proofs.WholeLaws.{whole-root-is, at-most-root}
+use Rattle.root.specs.Digits.{IsNearestRoot}
+use Rattle.root.proofs.NearestWhole.{nearest-is, nearest-from, nearest-below}
 use Rattle.root.specs.Root.{cutPlaces, rootDigits, rootUnits}
 use Rattle.root.proofs.Powers.{four-pos, pow-split, pow-lt-back}
 use Rattle.root.proofs.Patterns.{Counts}

@@ -1,4 +1,4 @@
-pub mod WholeLaws
+pub mod NearestWhole
 pub mod Powers
 pub mod Patterns
 pub mod LeadingDigits

@@ -15,7 +15,7 @@ use Rattle.root.specs.Digits.{IsNearestRoot}
 use Rattle.root.specs.Root.{cutPlaces, rootDigits, rootUnits}
 use Rattle.root.proofs.Powers.{four-pow, four-pos}
 use Rattle.root.proofs.Patterns.{Counts}
-use Rattle.root.proofs.WholeLaws.{middle-below, middle-above, middle-at-most}
+use Rattle.root.proofs.NearestWhole.{middle-below, middle-above, middle-at-most}
 use Rattle.root.proofs.LeadingDigits.{shortened, shortened-low, shortened-whole, digits-nearest, digits-low, units-count, units-held, enough, not-many}
 
 sum-squared : (k a w : ℕ) → (a * 2 ^ k + w * 2 ^ k) * (a * 2 ^ k + w * 2 ^ k) ≡ (a + w) * (a + w) * 4 ^ k

@@ -1,4 +1,4 @@
-pub mod Whole
+pub mod Nearest
 pub mod Fractions
 pub mod Root
 pub mod Digits

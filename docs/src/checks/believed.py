@@ -10,7 +10,8 @@ TOP = pathlib.Path(__file__).resolve().parents[3]
 BELIEVED = {
     "loops": "Loops",
     "fields": "Bytes Real",
-    "root": "Whole Fractions Root Answer",
+    "whole_root": "WholeRoot Table",
+    "root": "Nearest Fractions Root Answer",
     "wave": "Wave Nodes OpenAir",
     "job": "Job Format Questions",
     "chain": "Chain",
@@ -21,6 +22,7 @@ BELIEVED = {
     "surge": "Answers",
     "listing": "Text Listing",
     "surgelist": "ListingOf",
+    "table_afresh": "TableText",
 }
 
 

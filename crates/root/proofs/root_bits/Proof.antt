@@ -5,11 +5,13 @@ use Prim.Native.Nat.{ℕ, _+_, _-_, _*_, _/_, _%_, _^_, _≤_, _<_}
 use native.Mathlib.Nat.{mul-le-mul-left}
 use native.Mathlib.Omega.{arith}
 use borrow.Author.Needs.{needs}
-use Rattle.root.specs.Whole.{wholeRoot, toNearest}
-use Rattle.root.proofs.WholeLaws.{whole-root-is, one-root, root-by-rest, root-below}
+use Rattle.whole_root.specs.WholeRoot.{wholeRoot}
+use Rattle.whole_root.specs.Digits.{LeavesRest}
+use Rattle.whole_root.proofs.WholeLaws.{whole-root-is, one-root, root-by-rest, root-below}
+use Rattle.root.specs.Nearest.{toNearest}
 use Rattle.root.specs.Root.{cutPlaces}
 use Rattle.root.proofs.Powers.{wide-places, wide-cut}
-use Rattle.root.specs.Digits.{LeavesRest, IsWidened, unitsOf, rootPattern}
+use Rattle.root.specs.Digits.{IsWidened, unitsOf, rootPattern}
 use Rattle.root.proofs.root_bits.Statement.{statement}
 use Rattle.root.proofs.root_bits.Tie as tie
 
@@ -17,6 +19,11 @@ evened : (b d p : ℕ) → IsWidened b d p → d * (1 + p % 2) < 2 ^ 54
 evened b d p w =
     let one : 1 + p % 2 ≤ 2 = omega arith in
     omega (arith, mul-le-mul-left d one, w .bound)
+
+still-full : (b d p : ℕ) → IsWidened b d p → 2 ^ 52 ≤ d * (1 + p % 2)
+still-full b d p w =
+    let one : 1 ≤ 1 + p % 2 = omega arith in
+    omega (arith, mul-le-mul-left d one, w .full)
 
 is-root : (m root rest : ℕ) → m < 2 ^ 54 → LeavesRest (m * 2 ^ 52) root rest → root ≡ wholeRoot 53 (m * 2 ^ 52)
 is-root m root rest h l =
@@ -52,7 +59,7 @@ whole-root-requires c κs =
     let b = c .before .args .b in
     let d = c .widened .result .digits in
     let p = c .widened .result .power in
-    evened b d p (c .widened .ensures)
+    (still-full b d p (c .widened .ensures), evened b d p (c .widened .ensures))
 
 -- the bound on the root, once it is taken
 short : (c : tie.After-whole-root) → c .whole-root .result .root < 2 ^ 53

@@ -6,7 +6,7 @@ use Prim.Native.Nat.{ℕ, _+_, _*_, _^_, _≤_, _<_}
 use native.Mathlib.Nat.{add-zero}
 use native.Mathlib.Omega.{arith}
 use borrow.Author.Tests.{lt-ltb, le-ltb}
-use Rattle.root.specs.Whole.{toNearest}
+use Rattle.root.specs.Nearest.{toNearest}
 use Rattle.root.proofs.rounded.Statement.{statement}
 use Rattle.root.proofs.rounded.Tie as tie
 

@@ -1,0 +1,11 @@
+-- Figures of what the program prints, as statements about the definitions; they are proved in proofs/Figures.antt. Definitions only.
+use mathlib.Core.Path.{_≡_}
+use Rattle.listing.specs.Text.{ascii}
+use Rattle.listing.specs.Listing.{linesText}
+use Rattle.table_afresh.specs.TableText.{entryLine}
+
+-- "Entry 256 is 2,048 and entry 1,023 is 4,093"; the third line, our own, worked out apart from the definitions
+pub record TableLines : Type 0 where
+  pub first : entryLine 0 ≡ ascii "2048\n"
+  pub last : entryLine 767 ≡ ascii "4093\n"
+  pub three : linesText entryLine 3 ≡ ascii "2048\n2051\n2055\n"

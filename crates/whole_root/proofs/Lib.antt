@@ -1,0 +1,4 @@
+pub mod WholeLaws
+mod Figures
+pub mod TableRule
+mod Corrected

@@ -1,0 +1,4 @@
+pub mod WholeRoot
+pub mod Table
+pub mod Digits
+pub mod Figures
