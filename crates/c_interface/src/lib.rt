@@ -7,7 +7,7 @@ ghost use Rattle.reader.specs.Answer.{readAnswer};
 ghost use Rattle.recurrence.specs.Calls.{startCall, runOnCall};
 ghost use Rattle.recurrence.specs.Slices.{before, after};
 ghost use Rattle.surge.specs.Answers.{paperAnswer};
-ghost use Rattle.listing.specs.Listing.{lineWritten, AtFront};
+ghost use Rattle.listing_text.specs.Listing.{lineWritten, AtFront};
 ghost use Rattle.setting.specs.Setting.{setValve};
 ghost use Rattle.c_interface.specs.Packed.{packed, packedAnswer, packedRead, packedSetting, coefficientLeft};
 use reader::Read;

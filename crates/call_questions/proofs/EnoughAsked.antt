@@ -8,7 +8,7 @@ use Rattle.job.specs.Job.{sections}
 use Rattle.job.specs.Format.{jobOf, pipeTable, pipeCount}
 use Rattle.job.specs.Questions.{Accepted}
 use Rattle.recurrence.specs.Calls.{gathered, every, inUse}
-use Rattle.pipe_ends.proofs.Acceptance.{four-a-pipe}
+use Rattle.pipe_layout.proofs.Acceptance.{four-a-pipe}
 
 pub enough-asked : (job : List ℕ) → Accepted job → {n p : ℕ} → n ≡ sections (jobOf job) → p ≡ pipeCount (pipeTable job) → (a b c d e : ℕ)
     → (((leb n a && leb n b) && leb n c) && leb n d) && leb (p * 4) e ≡ every (λ x. leb (inUse (jobOf job) x) (gathered a b c d e x))

@@ -23,7 +23,7 @@ fn enough(job: &[u8], n: usize, a: usize, b: usize, c: usize, d: usize, e: usize
     requires { ⌜ (Accepted (now job)) × (n ≡ sections (jobOf (now job))) ⌝ }
     ensures { λ r. ⌜ r ≡ every (λ x. leb (inUse (jobOf (now (job .entry))) x) (gathered a b c d e x)) ⌝ }
 {
-    let m = pipe_ends::layout::pipe_count(job) * 4;
+    let m = pipe_layout::pipe_count(job) * 4;
     (n <= a) & (n <= b) & (n <= c) & (n <= d) & (m <= e)
 }
 

@@ -71,6 +71,6 @@ pub fn clear_spare(job: &[u8], spare: &mut [f64])
     ensures { λ _. ⌜ now (spare .exit)
         ≡ fill (λ (s : ℕ). zero64) (now (spare .entry)) 0 (pipeCount (pipeTable (now (job .entry))) * 4) ⌝ }
 {
-    let used = pipe_ends::layout::pipe_count(job) * 4;
+    let used = pipe_layout::pipe_count(job) * 4;
     section::clear_row(used, spare);
 }

@@ -12,7 +12,7 @@ ghost use Rattle.job.specs.TableEntries.{rOf, initialOf};
 ghost use Rattle.job.specs.Questions.{Accepted, frictionFits, initialFits};
 ghost use Rattle.setting.specs.Setting.{headAfter, headAlong, headFits, headAt, lastHead};
 use job::walk::Walk;
-use pipe_ends::layout::Laid;
+use pipe_layout::Laid;
 
 // The head that is carried on, and whether every head so far is finite and not below its floor.
 pub struct Judged {
@@ -83,12 +83,12 @@ pub fn judge(job: &[u8], level: f64, q: f64) -> Judged
 {
     let friction = job::tables::friction(job);
     let initial = job::tables::initial(job);
-    let count = pipe_ends::layout::pipe_count(job);
+    let count = pipe_layout::pipe_count(job);
     let mut head = level;
     let mut fits = true;
     let mut at = Walk::begun();
     while at.pipe < count {
-        let l = pipe_ends::layout::pipe_at(job, at);
+        let l = pipe_layout::pipe_at(job, at);
         let judged = judge_pipe(friction, initial, l, q, head);
         head = judged.head;
         fits = fits & judged.fits;
@@ -134,11 +134,11 @@ pub fn write(job: &[u8], level: f64, q: f64, heads: &mut [f64], flows: &mut [f64
         × (now (flows .exit) ≡ fill (λ (s : ℕ). q) (now (flows .entry)) 0 (sections j))) ⌝ }
 {
     let friction = job::tables::friction(job);
-    let count = pipe_ends::layout::pipe_count(job);
+    let count = pipe_layout::pipe_count(job);
     let mut head = level;
     let mut at = Walk::begun();
     while at.pipe < count {
-        let l = pipe_ends::layout::pipe_at(job, at);
+        let l = pipe_layout::pipe_at(job, at);
         head = write_pipe(friction, l, q, head, heads, flows);
         at = at.past(l.reaches);
     }

@@ -1,18 +1,15 @@
-// The texts of a listing: the line of a section, the closing line and the whole.
-pub mod text;
-
-use text::put_decimal;
-use text::put_newline;
-use text::put_number;
-use text::put_pattern;
-use text::put_text;
+// A listing, written into a lent slice: the line of a section, and the whole.
 ghost use mathlib.Core.Path.{_≡_};
 ghost use mathlib.Core.List.{_∷_, [], _++_};
 ghost use Prim.Native.Nat.{_+_, _≤_, _<_};
 ghost use lib.ListN.{length};
-ghost use Rattle.listing.specs.Text.{decimal, pattern, following, printed};
-ghost use Rattle.listing.specs.Listing.{lineText, closingText, linesText, lineWritten, AtFront};
-ghost use Rattle.listing.specs.InnerContracts.{Written, Listable, rowLine};
+ghost use Rattle.listing_text.specs.Text.{pattern, following};
+ghost use Rattle.listing_text.specs.Listing.{lineText, closingText, linesText, lineWritten, AtFront};
+ghost use Rattle.listing_text.specs.InnerContracts.{Written, Listable, rowLine};
+use closing_line::put_closing;
+use listing_text::put_decimal;
+use listing_text::put_newline;
+use listing_text::put_pattern;
 
 // The bytes that question 24 asks for: a line has at most 3 digits, four fields of 17 and the newline.
 const LINE: usize = 72;
@@ -90,49 +87,6 @@ pub fn line<'a>(
 {
     let n = write_line(section, head, flow, highest, lowest, out);
     &mut out[0..n]
-}
-
-// A word, a number and the newline.
-fn put_word_number(word: &[u8], n: usize, at: usize, out: &mut [u8]) -> usize
-    requires { ⌜ (length (now word) ≤ 9) × (at + 72 ≤ length (now out)) ⌝ }
-    ensures { λ r. ⌜ Written (now (out .entry)) at
-        (printed (now (word .entry)) (decimal n ∷ [])) (now (out .exit)) r ⌝ }
-    ensures { λ r. ⌜ r ≤ at + 72 ⌝ }
-{
-    let a = put_text(word, at, out);
-    let b = put_number(n, a, out);
-    put_newline(b, out)
-}
-
-// A word, two numbers and the newline.
-fn put_word_numbers(word: &[u8], m: usize, n: usize, at: usize, out: &mut [u8]) -> usize
-    requires { ⌜ (length (now word) ≤ 9) × (at + 72 ≤ length (now out)) ⌝ }
-    ensures { λ r. ⌜ Written (now (out .entry)) at
-        (printed (now (word .entry)) (decimal m ∷ decimal n ∷ [])) (now (out .exit)) r ⌝ }
-    ensures { λ r. ⌜ r ≤ at + 72 ⌝ }
-{
-    let a = put_text(word, at, out);
-    let b = put_number(m, a, out);
-    let c = put_number(n, b, out);
-    put_newline(c, out)
-}
-
-// The closing line of an answer: its number, the steps done and the section.
-fn put_closing(number: usize, steps: usize, section: usize, at: usize, out: &mut [u8]) -> usize
-    requires { ⌜ at + 72 ≤ length (now out) ⌝ }
-    ensures { λ r. ⌜ Written (now (out .entry)) at (closingText number steps section) (now (out .exit)) r ⌝ }
-    ensures { λ r. ⌜ r ≤ at + 72 ⌝ }
-{
-    if number == 0 {
-        return put_word_number(b"done", steps, at, out);
-    }
-    if number == 40 {
-        return put_word_numbers(b"notfinite", steps, section, at, out);
-    }
-    if number == 41 {
-        return put_word_numbers(b"parted", steps, section, at, out);
-    }
-    put_word_number(b"refused", number, at, out)
 }
 
 // Writes the lines of the sections 0 to count - 1 and a closing line at the front of `out`, and

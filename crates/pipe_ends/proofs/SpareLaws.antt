@@ -12,11 +12,11 @@ use Rattle.wave.specs.declared.HeadFlow.{HeadFlow}
 use Rattle.job.specs.Job.{Laid}
 use Rattle.job.specs.Questions.{Accepted}
 use Rattle.recurrence.specs.Step.{kAtStart, kAtFinish, atStart, atFinish}
-use Rattle.pipe_ends.specs.Layout.{LaidAt}
-use Rattle.pipe_ends.specs.FromRows.{alongRows, nodeHeads}
-use Rattle.pipe_ends.specs.Spare.{endIn, withEnds, EachPipe, KTo, KIn, startBy, finishBy, EndsByKTo, EndsByK, EndsIn}
-use Rattle.pipe_ends.proofs.Acceptance.{within}
-use Rattle.pipe_ends.proofs.NodeHeads.{head-read}
+use Rattle.pipe_layout.specs.Layout.{LaidAt}
+use Rattle.pipe_layout.proofs.Acceptance.{within}
+use Rattle.node_sums.specs.FromRows.{alongRows, nodeHeads}
+use Rattle.node_heads.proofs.NodeHeads.{head-read}
+use Rattle.spare_ends.specs.Spare.{endIn, withEnds, EachPipe, KTo, KIn, startBy, finishBy, EndsByKTo, EndsByK, EndsIn}
 
 -- ---- laws of any list, and of any fact of the first numbers
 

@@ -1,6 +1,84 @@
-// The ends of the pipes at a step, from the old state alone: K at each end, the nodes' sums and heads, and
-// the new head and flow at each end, in the spare.
-pub mod layout;
-pub mod nodes;
-pub mod spare;
-pub mod sums;
+// The ends of the pipes at a step, from the old state alone: K at each end, the nodes' sums and heads, and the new head
+// and flow at each end, in the spare.
+ghost use mathlib.Core.Path.{_≡_};
+ghost use Prim.Native.Nat.{_+_, _*_, _<_, _≤_};
+ghost use lib.ListN.{length, drop};
+ghost use Rattle.job.specs.Format.{pipeTable, pipeCount};
+ghost use Rattle.job.specs.Questions.{Accepted};
+ghost use Rattle.node_sums.specs.FromRows.{Lent, valueIn, constantSums, nodeSums};
+ghost use Rattle.spare_ends.specs.Spare.{KIn, EndsByK, EndsIn};
+use job::walk::Walk;
+use wave::Sums;
+
+// The sums of each node, from those before any K; and K at both ends of each pipe into the spare, where the
+// flows will be.
+fn keep_k(
+    job: &[u8],
+    constant: [Sums; 32],
+    heads: &[f64],
+    flows: &[f64],
+    spare: &mut [f64],
+) -> [Sums; 32]
+    requires { ⌜ (Lent (now job) (now heads) (now flows)) × (constant ≡ constantSums (now job))
+        × (pipeCount (pipeTable (now job)) * 4 ≤ length (now spare)) ⌝ }
+    ensures { λ r. ⌜ (let end = pipeCount (pipeTable (now (job .entry))) * 4 in
+        (r ≡ nodeSums (now (job .entry)) (now (heads .entry)) (now (flows .entry)))
+        × (KIn (now (job .entry)) (now (heads .entry)) (now (flows .entry)) (now (spare .exit)))
+        × (drop end (now (spare .exit)) ≡ drop end (now (spare .entry)))) ⌝ }
+{
+    let count = pipe_layout::pipe_count(job);
+    let mut sums = constant;
+    let mut at = Walk::begun();
+    while at.pipe < count {
+        let l = pipe_layout::pipe_at(job, at);
+        let start = l.start;
+        let finish = l.finish;
+        let at_start = node_sums::k_at_start(job, l, heads, flows);
+        let at_finish = node_sums::k_at_finish(job, l, heads, flows);
+        sums[start] = sums[start].with_k(at_start);
+        sums[finish] = sums[finish].with_k(at_finish);
+        let i = at.pipe * 4;
+        spare[i + 1] = at_start;
+        spare[i + 3] = at_finish;
+        at = at.past(l.reaches);
+    }
+    sums
+}
+
+// The new head and flow at both ends of each pipe, from K in the spare; nodes has H of each node.
+fn ends_from_k(job: &[u8], nodes: &[f64; 32], spare: &mut [f64])
+    requires { ⌜ (Accepted (now job))
+        × (pipeCount (pipeTable (now job)) * 4 ≤ length (now spare)) ⌝ }
+    ensures { λ _. ⌜ (let end = pipeCount (pipeTable (now (job .entry))) * 4 in
+        (EndsByK (now (job .entry)) (now (nodes .entry)) (now (spare .entry)) (now (spare .exit)))
+        × (drop end (now (spare .exit)) ≡ drop end (now (spare .entry)))) ⌝ }
+{
+    let count = pipe_layout::pipe_count(job);
+    let mut at = Walk::begun();
+    while at.pipe < count {
+        let l = pipe_layout::pipe_at(job, at);
+        spare_ends::pipe_ends(l, at.pipe, nodes, spare);
+        at = at.past(l.reaches);
+    }
+}
+
+// The new head and flow at both ends of each pipe into the spare. `values` has v of each node at the step, `constant`
+// the sums of the nodes before any K.
+pub fn write_ends(
+    job: &[u8],
+    values: [f64; 32],
+    constant: [Sums; 32],
+    heads: &[f64],
+    flows: &[f64],
+    spare: &mut [f64],
+)
+    requires { ⌜ (Lent (now job) (now heads) (now flows)) × (constant ≡ constantSums (now job))
+        × (pipeCount (pipeTable (now job)) * 4 ≤ length (now spare)) ⌝ }
+    ensures { λ _. ⌜ (let end = pipeCount (pipeTable (now (job .entry))) * 4 in
+        (EndsIn (now (job .entry)) (valueIn values) (now (heads .entry)) (now (flows .entry)) (now (spare .exit)))
+        × (drop end (now (spare .exit)) ≡ drop end (now (spare .entry)))) ⌝ }
+{
+    let sums = keep_k(job, constant, heads, flows, spare);
+    let nodes = node_heads::node_heads(job, values, sums);
+    ends_from_k(job, &nodes, spare);
+}

@@ -10,9 +10,9 @@ use Rattle.job.specs.Job.{Laid}
 use Rattle.job.specs.Format.{jobOf}
 use Rattle.recurrence.specs.Step.{between, endToEnd, newIn, newAt}
 use Rattle.recurrence.proofs.LaidPipes.{laid-located}
-use Rattle.pipe_ends.specs.Layout.{LaidAt}
-use Rattle.pipe_ends.specs.FromRows.{alongRows, newSection}
-use Rattle.pipe_ends.specs.Spare.{endIn, EndsIn}
+use Rattle.pipe_layout.specs.Layout.{LaidAt}
+use Rattle.node_sums.specs.FromRows.{alongRows, newSection}
+use Rattle.spare_ends.specs.Spare.{endIn, EndsIn}
 use Rattle.step_check.specs.BySpare.{newBySpare}
 
 -- ---- at an offset of a pipe

@@ -22,9 +22,9 @@ use Rattle.inner_sections.specs.InnerSections.{onePipe, innerAt, soundInner, Cu
 use Rattle.inner_sections.proofs.Parts.{r-part, r-part-finite, floor-part, floored-part}
 use Rattle.loops.proofs.Parts.{part-length, part-at}
 use Rattle.inner_sections.proofs.RecurrenceTies.{inner-is}
-use Rattle.pipe_ends.specs.Layout.{LaidPipe}
-use Rattle.pipe_ends.specs.FromRows.{alongRows, Lent}
-use Rattle.pipe_ends.proofs.Acceptance.{Within, within, friction-length, friction-finite, friction-read}
+use Rattle.pipe_layout.specs.Layout.{LaidPipe}
+use Rattle.pipe_layout.proofs.Acceptance.{Within, within, friction-length, friction-finite, friction-read}
+use Rattle.node_sums.specs.FromRows.{alongRows, Lent}
 
 -- the bytes of a pipe's friction, the number of its sections and the bytes of its floors, as the code counts them: from one place to another
 abbrev pub bytesOf : Laid → ℕ

@@ -17,9 +17,9 @@ use Rattle.loops.proofs.All.{all-cong, all-join}
 use Rattle.loops.proofs.Counting.{zero-sum, one-told}
 use Rattle.section.specs.Faults.{floorIn, faultAt, isSound, soundWith, counted}
 use Rattle.section.proofs.Soundness.{sound-any}
-use Rattle.pipe_ends.specs.Layout.{LaidAt}
-use Rattle.pipe_ends.specs.FromRows.{alongRows, newSection}
-use Rattle.pipe_ends.specs.Spare.{endIn, EndsIn}
+use Rattle.pipe_layout.specs.Layout.{LaidAt}
+use Rattle.node_sums.specs.FromRows.{alongRows, newSection}
+use Rattle.spare_ends.specs.Spare.{endIn, EndsIn}
 use Rattle.step_check.specs.BySpare.{newBySpare}
 use Rattle.step_check.proofs.BySpare.{start-new, inner-new, finish-new, by-spare}
 

@@ -13,9 +13,9 @@ use Rattle.job.specs.Format.{initialTable}
 use Rattle.recurrence.specs.Scan.{Fault, none, fault, earlier}
 use Rattle.loops.proofs.First.{first-cong}
 use Rattle.section.specs.Faults.{floorIn, faultWith, faultAt}
-use Rattle.pipe_ends.specs.Layout.{LaidAt}
-use Rattle.pipe_ends.specs.FromRows.{newSection}
-use Rattle.pipe_ends.specs.Spare.{EndsIn}
+use Rattle.pipe_layout.specs.Layout.{LaidAt}
+use Rattle.node_sums.specs.FromRows.{newSection}
+use Rattle.spare_ends.specs.Spare.{EndsIn}
 use Rattle.step_check.specs.BySpare.{newBySpare, faultBySpare}
 use Rattle.step_check.proofs.BySpare.{by-spare}
 

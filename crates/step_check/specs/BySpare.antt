@@ -8,8 +8,8 @@ use Rattle.job.specs.Format.{initialTable}
 use Rattle.recurrence.specs.Step.{between, endToEnd}
 use Rattle.recurrence.specs.Scan.{Fault}
 use Rattle.section.specs.Faults.{floorIn, faultWith}
-use Rattle.pipe_ends.specs.FromRows.{alongRows}
-use Rattle.pipe_ends.specs.Spare.{endIn}
+use Rattle.node_sums.specs.FromRows.{alongRows}
+use Rattle.spare_ends.specs.Spare.{endIn}
 
 -- the new head and flow at offset i of a laid pipe, whose ends stand in the spare from `at` on
 abbrev pub newBySpare : List ℕ → Laid → List Float → ℕ → List Float → List Float → ℕ → HeadFlow

@@ -11,12 +11,12 @@ ghost use Rattle.job.specs.Questions.{Accepted};
 ghost use Rattle.recurrence.specs.Scan.{none, earlier};
 ghost use Rattle.recurrence.specs.Step.{between};
 ghost use Rattle.section.specs.Faults.{floorIn, faultAt, firstFault, foundFault, isSound, soundWith, counted};
-ghost use Rattle.pipe_ends.specs.Layout.{laidOf, LaidPipe};
-ghost use Rattle.pipe_ends.specs.FromRows.{alongRows, Lent, newSection};
-ghost use Rattle.pipe_ends.specs.Spare.{endIn, EndsIn};
+ghost use Rattle.pipe_layout.specs.Layout.{laidOf, LaidPipe};
+ghost use Rattle.node_sums.specs.FromRows.{alongRows, Lent, newSection};
+ghost use Rattle.spare_ends.specs.Spare.{endIn, EndsIn};
 ghost use Rattle.step_check.specs.BySpare.{newBySpare, faultBySpare};
 use job::walk::Walk;
-use pipe_ends::layout::Laid;
+use pipe_layout::Laid;
 use section::Scan;
 use wave::HeadFlow;
 
@@ -62,8 +62,8 @@ fn end_faults(job: &[u8], l: Laid, at: usize, spare: &[f64]) -> u64
         + counted (floor (first + l .reaches)) (endIn (now (spare .entry)) (at + 2)))) ⌝ }
 {
     let last = l.first_section + l.reaches;
-    let start = pipe_ends::spare::end_at(spare, at);
-    let finish = pipe_ends::spare::end_at(spare, at + 2);
+    let start = spare_ends::end_at(spare, at);
+    let finish = spare_ends::end_at(spare, at + 2);
     let at_start = section::unsound(start.head, start.flow, floor_of(job, l.first_section));
     let at_finish = section::unsound(finish.head, finish.flow, floor_of(job, last));
     at_start + at_finish
@@ -78,11 +78,11 @@ fn faults(job: &[u8], heads: &[f64], flows: &[f64], spare: &[f64]) -> u64
         (newSection (now (job .entry)) v (now (heads .entry)) (now (flows .entry))) s))
         (sections (jobOf (now (job .entry))))) ⌝ }
 {
-    let count = pipe_ends::layout::pipe_count(job);
+    let count = pipe_layout::pipe_count(job);
     let mut bad: u64 = 0;
     let mut at = Walk::begun();
     while at.pipe < count {
-        let l = pipe_ends::layout::pipe_at(job, at);
+        let l = pipe_layout::pipe_at(job, at);
         let within = inner_faults(job, l, heads, flows);
         let ends = end_faults(job, l, at.pipe * 4, spare);
         let here = within + ends;
@@ -109,10 +109,10 @@ fn new_at(
 {
     let at = p * 4;
     if i == 0 {
-        return pipe_ends::spare::end_at(spare, at);
+        return spare_ends::end_at(spare, at);
     }
     if i == l.reaches {
-        return pipe_ends::spare::end_at(spare, at + 2);
+        return spare_ends::end_at(spare, at + 2);
     }
     let friction = job::tables::friction(job);
     let a = l.first_reach * 8;
@@ -160,10 +160,10 @@ fn first_fault(job: &[u8], heads: &[f64], flows: &[f64], spare: &[f64]) -> Scan
         ≡ firstFault (initialTable (now (job .entry))) (sections (jobOf (now (job .entry))))
         (newSection (now (job .entry)) v (now (heads .entry)) (now (flows .entry)))) ⌝ }
 {
-    let count = pipe_ends::layout::pipe_count(job);
+    let count = pipe_layout::pipe_count(job);
     let mut at = Walk::begun();
     while at.pipe < count {
-        let l = pipe_ends::layout::pipe_at(job, at);
+        let l = pipe_layout::pipe_at(job, at);
         let found = first_in_pipe(job, l, at.pipe, heads, flows, spare);
         match found {
             Scan::Sound => {}

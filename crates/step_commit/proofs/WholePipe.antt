@@ -10,9 +10,9 @@ use Rattle.job.specs.Job.{Laid}
 use Rattle.recurrence.specs.Step.{along, cpAfter, cmBefore, between, endToEnd}
 use Rattle.section.specs.SectionRows.{entry, SteppedRows}
 use Rattle.section.proofs.RowLaws.{SteppedTo, stepped-more, stepped-done, heads-kept, flows-kept}
-use Rattle.pipe_ends.specs.Layout.{LaidAt}
-use Rattle.pipe_ends.specs.FromRows.{alongRows, newSection}
-use Rattle.pipe_ends.specs.Spare.{endIn, EndsIn}
+use Rattle.pipe_layout.specs.Layout.{LaidAt}
+use Rattle.node_sums.specs.FromRows.{alongRows, newSection}
+use Rattle.spare_ends.specs.Spare.{endIn, EndsIn}
 use Rattle.step_check.specs.BySpare.{newBySpare}
 use Rattle.step_check.proofs.BySpare.{start-new, inner-new, finish-new, by-spare}
 use Rattle.step_commit.proofs.InnerThenStart.{stepped-above}

@@ -6,12 +6,12 @@ ghost use Rattle.job.specs.Job.{sections};
 ghost use Rattle.job.specs.Format.{jobOf, pipeTable, pipeCount};
 ghost use Rattle.recurrence.specs.Step.{between};
 ghost use Rattle.section.specs.SectionRows.{Stepped};
-ghost use Rattle.pipe_ends.specs.Layout.{laidOf, LaidPipe};
-ghost use Rattle.pipe_ends.specs.FromRows.{alongRows, Lent, newSection};
-ghost use Rattle.pipe_ends.specs.Spare.{endIn, EndsIn};
+ghost use Rattle.pipe_layout.specs.Layout.{laidOf, LaidPipe};
+ghost use Rattle.node_sums.specs.FromRows.{alongRows, Lent, newSection};
+ghost use Rattle.spare_ends.specs.Spare.{endIn, EndsIn};
 ghost use Rattle.step_check.specs.BySpare.{newBySpare};
 use job::walk::Walk;
-use pipe_ends::layout::Laid;
+use pipe_layout::Laid;
 
 // Overwrites a pipe's inner sections.
 fn commit_inner(
@@ -57,7 +57,7 @@ fn commit_end(
         × (s < length (now lowest)) × (at + 1 < length (now spare)) ⌝ }
     ensures { λ _. ⌜ Stepped (λ (k : ℕ). endIn (now (spare .entry)) at) s 1 heads flows highest lowest ⌝ }
 {
-    let x = pipe_ends::spare::end_at(spare, at);
+    let x = spare_ends::end_at(spare, at);
     section::store(s, x, heads, flows, highest, lowest);
 }
 
@@ -105,10 +105,10 @@ pub fn commit(
         (now (spare .entry)) → Stepped (newSection (now (job .entry)) v (now (heads .entry)) (now (flows .entry)))
         0 (sections (jobOf (now (job .entry)))) heads flows highest lowest) ⌝ }
 {
-    let count = pipe_ends::layout::pipe_count(job);
+    let count = pipe_layout::pipe_count(job);
     let mut at = Walk::begun();
     while at.pipe < count {
-        let l = pipe_ends::layout::pipe_at(job, at);
+        let l = pipe_layout::pipe_at(job, at);
         commit_pipe(job, l, at.pipe, spare, heads, flows, highest, lowest);
         at = at.past(l.reaches);
     }

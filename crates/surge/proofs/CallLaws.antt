@@ -32,7 +32,7 @@ use Rattle.time_step.specs.declared.Ended.{Ended}
 use Rattle.call_questions.specs.Opening.{firstAsked}
 use Rattle.surge.specs.Answers.{paperAnswer, callLeaves}
 use Rattle.time_step.specs.StepsInRows.{SameRest, resultOf}
-use Rattle.pipe_ends.proofs.Acceptance.{four-a-pipe}
+use Rattle.pipe_layout.proofs.Acceptance.{four-a-pipe}
 use Rattle.time_step.proofs.StepInRows.{filled-rest}
 
 -- ---- the questions

@@ -23,8 +23,8 @@ use Rattle.recurrence.proofs.RowLaws.{each-enough, holds-point, holds-state, ro
 use Rattle.recurrence.proofs.TiedCalls.{start-sized}
 use Rattle.recurrence.proofs.GoesOn.{start-acceptable}
 use Rattle.loops.proofs.Within.{getD-within}
-use Rattle.listing.specs.Listing.{linesText, closingText, AtFront}
-use Rattle.listing.specs.InnerContracts.{rowLine}
+use Rattle.listing_text.specs.Listing.{linesText, closingText, AtFront}
+use Rattle.listing_text.specs.InnerContracts.{rowLine}
 use Rattle.surgelist.specs.ListingOf.{runOf, pointLine, sectionLines, closingLine, listingOf}
 use Rattle.surgelist.specs.LentRows.{Long, textOf}
 

@@ -6,7 +6,7 @@ use Prim.Native.Nat.{ℕ}
 use lib.Dec.{eqb}
 use lib.ListN.{set}
 use Rattle.job.specs.JobQ.{jobQ}
-use Rattle.listing.specs.Text.{ascii}
+use Rattle.listing_text.specs.Text.{ascii}
 use Rattle.surgelist.specs.ListingOf.{listingOf}
 
 -- job Q with the opening 2, which question 15 refuses; and with five steps for its listing and a floor of 7 at section 2, whose head is 6 at step 5

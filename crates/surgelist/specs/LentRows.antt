@@ -5,8 +5,8 @@ use Prim.Native.Nat.{ℕ, _≤_}
 use lib.ListN.{length}
 use Rattle.recurrence.specs.Calls.{heads, flows, highest, lowest, spare, Rows}
 use Rattle.recurrence.specs.Run.{Answer}
-use Rattle.listing.specs.Listing.{linesText}
-use Rattle.listing.specs.InnerContracts.{rowLine}
+use Rattle.listing_text.specs.Listing.{linesText}
+use Rattle.listing_text.specs.InnerContracts.{rowLine}
 use Rattle.surgelist.specs.ListingOf.{closingLine}
 
 -- rows that hold every job: 512 sections, and in the spare four values for each of 32 pipes

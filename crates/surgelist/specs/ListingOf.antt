@@ -6,7 +6,7 @@ use Rattle.job.specs.Format.{listingSteps, jobOf}
 use Rattle.recurrence.specs.State.{Point, startState, pointAt}
 use Rattle.recurrence.specs.Run.{Result, refused, ran, Answer, answerOf, steps}
 use Rattle.recurrence.specs.Calls.{readFirst}
-use Rattle.listing.specs.Listing.{lineText, linesText, closingText}
+use Rattle.listing_text.specs.Listing.{lineText, linesText, closingText}
 
 -- the run of a job: the questions to it, and from the start the "steps for the listing"
 unfoldable pub runOf : List ℕ → Result

@@ -7,7 +7,7 @@ ghost use Rattle.job.specs.Format.{jobOf, listingSteps};
 ghost use Rattle.job.specs.Questions.{Accepted};
 ghost use Rattle.recurrence.specs.Slices.{lent, after};
 ghost use Rattle.surge.specs.Answers.{paperAnswer};
-ghost use Rattle.listing.specs.Listing.{AtFront};
+ghost use Rattle.listing_text.specs.Listing.{AtFront};
 ghost use Rattle.surgelist.specs.ListingOf.{listingOf};
 ghost use Rattle.surgelist.specs.LentRows.{Long, textOf};
 use reader::Read;

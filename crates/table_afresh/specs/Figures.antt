@@ -1,7 +1,7 @@
 -- Figures of what the program prints, as statements about the definitions; they are proved in proofs/Figures.antt. Definitions only.
 use mathlib.Core.Path.{_≡_}
-use Rattle.listing.specs.Text.{ascii}
-use Rattle.listing.specs.Listing.{linesText}
+use Rattle.listing_text.specs.Text.{ascii}
+use Rattle.listing_text.specs.Listing.{linesText}
 use Rattle.table_afresh.specs.TableText.{entryLine}
 
 -- "Entry 256 is 2,048 and entry 1,023 is 4,093"; the third line, our own, worked out apart from the definitions

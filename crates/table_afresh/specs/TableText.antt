@@ -2,8 +2,8 @@
 use Prim.Native.Nat.{ℕ, _+_}
 use mathlib.Core.List.{List, []}
 use Rattle.whole_root.specs.Table.{entryOf}
-use Rattle.listing.specs.Text.{decimal, printed}
-use Rattle.listing.specs.Listing.{linesText}
+use Rattle.listing_text.specs.Text.{decimal, printed}
+use Rattle.listing_text.specs.Listing.{linesText}
 
 -- the line of the table's k-th entry, counted from 0: "one decimal number a line"
 abbrev pub entryLine : ℕ → List ℕ

@@ -3,9 +3,9 @@ ghost use mathlib.Core.List.{[]};
 ghost use Prim.Native.Nat.{_+_, _*_, _^_, _≤_, _<_};
 ghost use lib.ListN.{length};
 ghost use Rattle.whole_root.specs.WholeRoot.{IsWholeRoot};
-ghost use Rattle.listing.specs.Text.{decimal, printed};
-ghost use Rattle.listing.specs.Listing.{AtFront};
-ghost use Rattle.listing.specs.InnerContracts.{Written};
+ghost use Rattle.listing_text.specs.Text.{decimal, printed};
+ghost use Rattle.listing_text.specs.Listing.{AtFront};
+ghost use Rattle.listing_text.specs.InnerContracts.{Written};
 ghost use Rattle.table_afresh.specs.TableText.{tableText};
 
 // The root of n, counted up from a number that is not above it.
@@ -26,8 +26,8 @@ fn put_alone(n: usize, at: usize, out: &mut [u8]) -> usize
     ensures { λ r. ⌜ Written (now (out .entry)) at (printed (decimal n) []) (now (out .exit)) r ⌝ }
     ensures { λ r. ⌜ r ≤ at + 5 ⌝ }
 {
-    let next = listing::text::put_decimal(n, at, out);
-    listing::text::put_newline(next, out)
+    let next = listing_text::put_decimal(n, at, out);
+    listing_text::put_newline(next, out)
 }
 
 // Writes the table's lines at the front of `out` and answers how many bytes they take. Each entry is counted up

@@ -30,9 +30,9 @@ use Rattle.section.specs.SectionRows.{entry, SteppedRows}
 use Rattle.section.specs.declared.findings.Scan.{Scan}
 use Rattle.section.specs.Faults.{firstFault, foundFault}
 use Rattle.section.proofs.RecurrenceTies.{scan-is}
-use Rattle.pipe_ends.specs.FromRows.{alongRows, Lent, overNodes, valueIn, newSection}
-use Rattle.pipe_ends.proofs.Acceptance.{within, floor-read, four-a-pipe}
-use Rattle.pipe_ends.proofs.NodeHeads.{over-read}
+use Rattle.pipe_layout.proofs.Acceptance.{within, floor-read, four-a-pipe}
+use Rattle.node_sums.specs.FromRows.{alongRows, Lent, overNodes, valueIn, newSection}
+use Rattle.node_heads.proofs.NodeHeads.{over-read}
 use Rattle.time_step.specs.StepsInRows.{Ready, stops, StepsInRows}
 use Rattle.time_step.proofs.RunLaws.{ready-enough, step-done, step-stops}
 

@@ -31,7 +31,7 @@ pub fn run(
     ensures { λ r. ⌜ StepsInRows (now (job .entry)) done count (before heads flows highest lowest spare)
         (after heads flows highest lowest spare) r ⌝ }
 {
-    let sums = pipe_ends::sums::constant_sums(job);
+    let sums = node_sums::constant_sums(job);
     let mut i = 0;
     while i < count {
         let next = i + 1;

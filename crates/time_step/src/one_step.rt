@@ -1,7 +1,7 @@
 // One step over the lent rows, in place.
 ghost use mathlib.Core.Path.{_≡_};
 ghost use Prim.Native.Nat.{_+_, _≤_};
-ghost use Rattle.pipe_ends.specs.FromRows.{constantSums};
+ghost use Rattle.node_sums.specs.FromRows.{constantSums};
 ghost use Rattle.recurrence.specs.Slices.{lent, before, after};
 ghost use Rattle.time_step.specs.StepsInRows as inner;
 use super::Ended;
@@ -38,8 +38,8 @@ pub(super) fn one_step(
 {
     let after = done + 1;
     let step = after as usize;
-    let values = pipe_ends::nodes::values_at(job, step);
-    pipe_ends::spare::write_ends(job, values, sums, heads, flows, spare);
+    let values = node_heads::values_at(job, step);
+    pipe_ends::write_ends(job, values, sums, heads, flows, spare);
     let found = step_check::check(job, heads, flows, spare);
     if stops(found) {
         return Ended { steps: done, found };

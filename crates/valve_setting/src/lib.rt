@@ -21,7 +21,7 @@ fn outlet_head(job: &[u8]) -> f64
     ensures { λ r. ⌜ r ≡ outletHead (jobOf (now (job .entry))) ⌝ }
 {
     let nodes = job::tables::nodes(job);
-    let last = pipe_ends::layout::pipe_count(job);
+    let last = pipe_layout::pipe_count(job);
     fields::f64_at(nodes, last * 26 + 10)
 }
 

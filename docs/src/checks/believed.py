@@ -20,7 +20,7 @@ BELIEVED = {
     "reader": "Answer",
     "recurrence": "State Step Scan Run Calls Slices Paths Demand Lent Continued",
     "surge": "Answers",
-    "listing": "Text Listing",
+    "listing_text": "Text Listing",
     "surgelist": "ListingOf",
     "table_afresh": "TableText",
 }

@@ -6,7 +6,7 @@ use Rattle.recurrence.specs.Calls.{gathered}
 use Rattle.job.specs.Format.{jobOf}
 use Rattle.job.proofs.Accepted.{initial-length, initial-fits}
 use Rattle.section.proofs.RecurrenceTies.{acceptable-is}
-use Rattle.pipe_ends.proofs.Acceptance.{pairs-accepted, floor-read}
+use Rattle.pipe_layout.proofs.Acceptance.{pairs-accepted, floor-read}
 use Rattle.call_questions.proofs.acceptable.Statement.{statement}
 use Rattle.call_questions.proofs.acceptable.Tie as tie
 

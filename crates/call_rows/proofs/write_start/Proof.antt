@@ -4,7 +4,7 @@ use borrow.Author.Needs.{needs}
 use Rattle.job.specs.Job.{initialAt}
 use Rattle.job.specs.Format.{jobOf}
 use Rattle.job.proofs.Accepted.{initial-length, initial-fits}
-use Rattle.pipe_ends.proofs.Acceptance.{pairs-accepted}
+use Rattle.pipe_layout.proofs.Acceptance.{pairs-accepted}
 use Rattle.call_rows.proofs.write_start.Statement.{statement}
 use Rattle.call_rows.proofs.write_start.Tie as tie
 

@@ -12,8 +12,8 @@ use Rattle.job.specs.Job.{floorAt}
 use Rattle.job.specs.Format.{pipeTable, pipeCount, jobOf}
 use Rattle.job.proofs.WalkLaws.{walk-none}
 use Rattle.job.proofs.Accepted.{friction-length, initial-length, friction-fits, initial-fits}
-use Rattle.pipe_ends.specs.Layout.{laidOf, Walked}
-use Rattle.pipe_ends.proofs.Acceptance.{pairs-accepted, Onward, onward, all-passed}
+use Rattle.pipe_layout.specs.Layout.{laidOf, Walked}
+use Rattle.pipe_layout.proofs.Acceptance.{pairs-accepted, Onward, onward, all-passed}
 use Rattle.setting.specs.Setting.{headAt, lastHead, headFits}
 use Rattle.chain_heads.proofs.HeadLaws.{section-least, Carried, carried-none, carried-on, tested-on}
 use Rattle.chain_heads.proofs.judge.Statement.{statement}

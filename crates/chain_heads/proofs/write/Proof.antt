@@ -11,8 +11,8 @@ use Rattle.loops.proofs.Fill.{fill-none}
 use Rattle.job.specs.Format.{pipeTable, pipeCount, jobOf}
 use Rattle.job.proofs.WalkLaws.{walk-none}
 use Rattle.job.proofs.Accepted.{friction-length, friction-fits}
-use Rattle.pipe_ends.specs.Layout.{laidOf, Walked}
-use Rattle.pipe_ends.proofs.Acceptance.{pairs-accepted, Onward, onward, all-passed}
+use Rattle.pipe_layout.specs.Layout.{laidOf, Walked}
+use Rattle.pipe_layout.proofs.Acceptance.{pairs-accepted, Onward, onward, all-passed}
 use Rattle.setting.specs.Setting.{headAt}
 use Rattle.chain_heads.proofs.HeadLaws.{Carried, carried-none, carried-on, heads-on, filled-pipe}
 use Rattle.chain_heads.proofs.write.Statement.{statement}

@@ -2,7 +2,7 @@
 -- does. Assumes nothing.
 use native.Mathlib.Nat.{zero-add}
 use borrow.Author.Needs.{needs}
-use Rattle.listing.proofs.StoredTexts.{front-within, front-part}
+use Rattle.listing_text.proofs.StoredTexts.{front-within, front-part}
 use Rattle.listing.proofs.line.Statement.{statement}
 use Rattle.listing.proofs.line.Tie as tie
 

@@ -1,9 +1,9 @@
 -- `listing::put_line` meets its contract: the number of a section below 512 has at most 3 digits, and the values take 69 bytes behind it. Assumes nothing.
 use Prim.Native.Nat.{_≤_}
 use native.Mathlib.Omega.{arith}
-use Rattle.listing.specs.Text.{places}
-use Rattle.listing.proofs.Digits.{places-bound}
-use Rattle.listing.proofs.StoredTexts.{joined}
+use Rattle.listing_text.specs.Text.{places}
+use Rattle.listing_text.proofs.Digits.{places-bound}
+use Rattle.listing_text.proofs.StoredTexts.{joined}
 use Rattle.listing.proofs.put_line.Statement.{statement}
 use Rattle.listing.proofs.put_line.Tie as tie
 

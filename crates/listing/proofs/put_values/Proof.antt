@@ -1,7 +1,7 @@
 -- `listing::put_values` meets its contract: four patterns of 17 bytes and the newline, each stored behind the one before it. Assumes nothing.
 use native.Mathlib.Omega.{arith}
 use borrow.Author.Needs.{needs}
-use Rattle.listing.proofs.StoredTexts.{joined}
+use Rattle.listing_text.proofs.StoredTexts.{joined}
 use Rattle.listing.proofs.put_values.Statement.{statement}
 use Rattle.listing.proofs.put_values.Tie as tie
 

@@ -5,8 +5,8 @@ use borrow.Author.Needs.{needs}
 use borrow.Author.Tests.{lt-ltb, le-ltb, le-leb, lt-leb}
 use lib.ListN.{length}
 use denote.Ref.{now}
-use Rattle.listing.specs.Listing.{lineWritten}
-use Rattle.listing.proofs.StoredTexts.{at-front, no-text}
+use Rattle.listing_text.specs.Listing.{lineWritten}
+use Rattle.listing_text.proofs.StoredTexts.{at-front, no-text}
 use Rattle.listing.proofs.write_line.Statement.{statement}
 use Rattle.listing.proofs.write_line.Tie as tie
 

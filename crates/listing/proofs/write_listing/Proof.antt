@@ -5,9 +5,9 @@ use Prim.Native.Nat.{_*_, _-_, _≤_}
 use native.Mathlib.Numerals.{add-one}
 use native.Mathlib.Omega.{arith}
 use lib.ListN.{length}
-use Rattle.listing.specs.Listing.{linesText}
-use Rattle.listing.specs.InnerContracts.{Written, rowLine}
-use Rattle.listing.proofs.StoredTexts.{joined, at-front}
+use Rattle.listing_text.specs.Listing.{linesText}
+use Rattle.listing_text.specs.InnerContracts.{Written, rowLine}
+use Rattle.listing_text.proofs.StoredTexts.{joined, at-front}
 use Rattle.listing.proofs.write_listing.Statement.{statement}
 use Rattle.listing.proofs.write_listing.Tie as tie
 

@@ -5,8 +5,8 @@ use native.Mathlib.Omega.{arith}
 use denote.Ref.{now}
 use borrow.Author.Needs.{needs}
 use Rattle.section.specs.Faults.{counted}
-use Rattle.pipe_ends.specs.Layout.{laidOf}
-use Rattle.pipe_ends.proofs.Acceptance.{Within, within}
+use Rattle.pipe_layout.specs.Layout.{laidOf}
+use Rattle.pipe_layout.proofs.Acceptance.{Within, within}
 use Rattle.step_check.proofs.end_faults.Statement.{statement}
 use Rattle.step_check.proofs.end_faults.Tie as tie
 

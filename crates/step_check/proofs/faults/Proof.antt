@@ -11,10 +11,10 @@ use Rattle.loops.specs.Loops.{allBelow}
 use Rattle.job.specs.Format.{pipeTable, initialTable, pipeCount}
 use Rattle.job.proofs.WalkLaws.{walk-none}
 use Rattle.section.specs.Faults.{faultAt, isSound}
-use Rattle.pipe_ends.specs.Layout.{laidOf, Walked}
-use Rattle.pipe_ends.specs.FromRows.{newSection}
-use Rattle.pipe_ends.specs.Spare.{EndsIn}
-use Rattle.pipe_ends.proofs.Acceptance.{Onward, onward, all-passed}
+use Rattle.pipe_layout.specs.Layout.{laidOf, Walked}
+use Rattle.pipe_layout.proofs.Acceptance.{Onward, onward, all-passed}
+use Rattle.node_sums.specs.FromRows.{newSection}
+use Rattle.spare_ends.specs.Spare.{EndsIn}
 use Rattle.step_check.proofs.FaultCount.{pipe-sound, judged-more}
 use Rattle.step_check.proofs.faults.Statement.{statement}
 use Rattle.step_check.proofs.faults.Tie as tie

@@ -12,10 +12,10 @@ use Rattle.job.specs.Format.{jobOf, pipeTable, initialTable, pipeCount}
 use Rattle.job.proofs.WalkLaws.{walk-none}
 use Rattle.recurrence.specs.Scan.{Fault, none, earlier}
 use Rattle.section.specs.Faults.{faultAt, firstFault, foundFault}
-use Rattle.pipe_ends.specs.Layout.{laidOf, Walked}
-use Rattle.pipe_ends.specs.FromRows.{newSection}
-use Rattle.pipe_ends.specs.Spare.{EndsIn}
-use Rattle.pipe_ends.proofs.Acceptance.{Onward, onward, all-passed}
+use Rattle.pipe_layout.specs.Layout.{laidOf, Walked}
+use Rattle.pipe_layout.proofs.Acceptance.{Onward, onward, all-passed}
+use Rattle.node_sums.specs.FromRows.{newSection}
+use Rattle.spare_ends.specs.Spare.{EndsIn}
 use Rattle.step_check.proofs.FirstFault.{pipe-searched, first-after, first-found}
 use Rattle.step_check.proofs.first_fault.Statement.{statement}
 use Rattle.step_check.proofs.first_fault.Tie as tie

@@ -7,8 +7,8 @@ use borrow.Author.Needs.{needs}
 use Rattle.recurrence.specs.Scan.{earlier}
 use Rattle.section.specs.Faults.{foundFault}
 use Rattle.section.proofs.Soundness.{NoneYet, none-yet, none-more, none-stop, none-done}
-use Rattle.pipe_ends.specs.Layout.{laidOf}
-use Rattle.pipe_ends.proofs.Acceptance.{Within, within}
+use Rattle.pipe_layout.specs.Layout.{laidOf}
+use Rattle.pipe_layout.proofs.Acceptance.{Within, within}
 use Rattle.step_check.specs.BySpare.{faultBySpare}
 use Rattle.step_check.proofs.FirstFault.{fault-by-spare}
 use Rattle.step_check.proofs.first_in_pipe.Statement.{statement}

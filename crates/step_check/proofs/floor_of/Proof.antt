@@ -2,7 +2,7 @@
 use native.Mathlib.Omega.{arith}
 use Rattle.job.proofs.Accepted.{initial-length, initial-fits}
 use Rattle.section.proofs.Soundness.{floor-finite}
-use Rattle.pipe_ends.proofs.Acceptance.{pairs-accepted}
+use Rattle.pipe_layout.proofs.Acceptance.{pairs-accepted}
 use Rattle.step_check.proofs.floor_of.Statement.{statement}
 use Rattle.step_check.proofs.floor_of.Tie as tie
 

@@ -6,8 +6,8 @@ use lib.ListN.{length}
 use denote.Ref.{now}
 use borrow.Author.Needs.{needs}
 use Rattle.job.proofs.Accepted.{initial-length}
-use Rattle.pipe_ends.specs.Layout.{laidOf}
-use Rattle.pipe_ends.proofs.Acceptance.{Within, within, pairs-accepted, friction-length}
+use Rattle.pipe_layout.specs.Layout.{laidOf}
+use Rattle.pipe_layout.proofs.Acceptance.{Within, within, pairs-accepted, friction-length}
 use Rattle.step_check.proofs.CutToPipe.{cut-length, cut-to-pipe, floored, inner-judged}
 use Rattle.step_check.proofs.inner_faults.Statement.{statement}
 use Rattle.step_check.proofs.inner_faults.Tie as tie

@@ -6,8 +6,8 @@ use native.Mathlib.Omega.{arith}
 use lib.ListN.{length}
 use denote.Ref.{now}
 use borrow.Author.Needs.{needs}
-use Rattle.pipe_ends.specs.Layout.{laidOf}
-use Rattle.pipe_ends.proofs.Acceptance.{Within, within, pairs-accepted, friction-length}
+use Rattle.pipe_layout.specs.Layout.{laidOf}
+use Rattle.pipe_layout.proofs.Acceptance.{Within, within, pairs-accepted, friction-length}
 use Rattle.step_check.specs.BySpare.{newBySpare}
 use Rattle.step_check.proofs.CutToPipe.{cut-length, cut-to-pipe, cut-is}
 use Rattle.step_check.proofs.BySpare.{start-new, inner-new, finish-new}

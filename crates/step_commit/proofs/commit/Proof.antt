@@ -10,10 +10,10 @@ use borrow.Author.Needs.{needs}
 use Rattle.job.specs.Format.{pipeTable, pipeCount}
 use Rattle.job.proofs.WalkLaws.{walk-none}
 use Rattle.section.proofs.RowLaws.{SteppedTo, stepped-none, stepped-done}
-use Rattle.pipe_ends.specs.Layout.{laidOf, Walked}
-use Rattle.pipe_ends.specs.FromRows.{newSection}
-use Rattle.pipe_ends.specs.Spare.{EndsIn}
-use Rattle.pipe_ends.proofs.Acceptance.{Onward, onward, all-passed}
+use Rattle.pipe_layout.specs.Layout.{laidOf, Walked}
+use Rattle.pipe_layout.proofs.Acceptance.{Onward, onward, all-passed}
+use Rattle.node_sums.specs.FromRows.{newSection}
+use Rattle.spare_ends.specs.Spare.{EndsIn}
 use Rattle.step_commit.proofs.WholePipe.{pipe-more}
 use Rattle.step_commit.proofs.commit.Statement.{statement}
 use Rattle.step_commit.proofs.commit.Tie as tie

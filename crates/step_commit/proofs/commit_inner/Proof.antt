@@ -6,8 +6,8 @@ use denote.Ref.{now}
 use borrow.Author.Needs.{needs}
 use Rattle.recurrence.specs.Step.{raised, lowered}
 use Rattle.section.specs.SectionRows.{keepNew}
-use Rattle.pipe_ends.specs.Layout.{laidOf}
-use Rattle.pipe_ends.proofs.Acceptance.{Within, within, pairs-accepted, friction-length}
+use Rattle.pipe_layout.specs.Layout.{laidOf}
+use Rattle.pipe_layout.proofs.Acceptance.{Within, within, pairs-accepted, friction-length}
 use Rattle.step_check.proofs.CutToPipe.{cut-length, cut-to-pipe, put-back}
 use Rattle.step_commit.proofs.commit_inner.Statement.{statement}
 use Rattle.step_commit.proofs.commit_inner.Tie as tie

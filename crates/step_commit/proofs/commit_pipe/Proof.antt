@@ -3,8 +3,8 @@
 use native.Mathlib.Omega.{arith}
 use denote.Ref.{now}
 use borrow.Author.Needs.{needs}
-use Rattle.pipe_ends.specs.Layout.{laidOf}
-use Rattle.pipe_ends.proofs.Acceptance.{Within, within}
+use Rattle.pipe_layout.specs.Layout.{laidOf}
+use Rattle.pipe_layout.proofs.Acceptance.{Within, within}
 use Rattle.step_commit.proofs.WholePipe.{whole-pipe}
 use Rattle.step_commit.proofs.commit_pipe.Statement.{statement}
 use Rattle.step_commit.proofs.commit_pipe.Tie as tie

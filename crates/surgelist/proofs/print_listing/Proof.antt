@@ -1,6 +1,6 @@
 -- `surgelist::print_listing` is safe: the rows and the text are as long as the listing asks, and the listing lies within its text. Assumes nothing.
 use borrow.Author.Needs.{needs}
-use Rattle.listing.proofs.StoredTexts.{front-within}
+use Rattle.listing_text.proofs.StoredTexts.{front-within}
 use Rattle.surgelist.proofs.print_listing.Statement.{statement}
 use Rattle.surgelist.proofs.print_listing.Tie as tie
 

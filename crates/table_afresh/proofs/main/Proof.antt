@@ -1,6 +1,6 @@
 -- The text has room for the table, whose lines lie within it. Assumes nothing.
 use borrow.Author.Needs.{needs}
-use Rattle.listing.proofs.StoredTexts.{front-within}
+use Rattle.listing_text.proofs.StoredTexts.{front-within}
 use Rattle.table_afresh.proofs.main.Statement.{statement}
 use Rattle.table_afresh.proofs.main.Tie as tie
 

@@ -14,7 +14,7 @@ use Rattle.job.proofs.NodeLaws.{figures-finite}
 use Rattle.job.proofs.Accepted.{tables-right, pipes-length}
 use Rattle.chain.specs.Chain.{isValve}
 use Rattle.chain.proofs.ChainLaws.{EndsWithValve, ends-with-valve}
-use Rattle.pipe_ends.proofs.Acceptance.{pairs-accepted}
+use Rattle.pipe_layout.proofs.Acceptance.{pairs-accepted}
 use Rattle.setting.specs.Setting.{headBehind, outletHead}
 use Rattle.valve_setting.proofs.outlet_head.Statement.{statement}
 use Rattle.valve_setting.proofs.outlet_head.Tie as tie

@@ -2,9 +2,9 @@
 use Prim.Native.Nat.{_≤_}
 use native.Mathlib.Omega.{arith}
 use borrow.Author.Needs.{needs}
-use Rattle.listing.specs.Text.{places}
-use Rattle.listing.proofs.Digits.{places-bound}
-use Rattle.listing.proofs.StoredTexts.{joined}
+use Rattle.listing_text.specs.Text.{places}
+use Rattle.listing_text.proofs.Digits.{places-bound}
+use Rattle.listing_text.proofs.StoredTexts.{joined}
 use Rattle.table_afresh.proofs.afresh.put_alone.Statement.{statement}
 use Rattle.table_afresh.proofs.afresh.put_alone.Tie as tie
 

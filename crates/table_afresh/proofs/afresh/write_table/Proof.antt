@@ -8,10 +8,10 @@ use lib.ListN.{length}
 use Rattle.whole_root.specs.WholeRoot.{IsWholeRoot}
 use Rattle.whole_root.specs.Table.{entryOf}
 use Rattle.whole_root.proofs.WholeLaws.{whole-root-is, one-root, root-below}
-use Rattle.listing.specs.Text.{decimal, printed}
-use Rattle.listing.specs.Listing.{linesText}
-use Rattle.listing.specs.InnerContracts.{Written}
-use Rattle.listing.proofs.StoredTexts.{joined, at-front}
+use Rattle.listing_text.specs.Text.{decimal, printed}
+use Rattle.listing_text.specs.Listing.{linesText}
+use Rattle.listing_text.specs.InnerContracts.{Written}
+use Rattle.listing_text.proofs.StoredTexts.{joined, at-front}
 use Rattle.table_afresh.specs.TableText.{entryLine, tableText}
 use Rattle.table_afresh.proofs.afresh.write_table.Statement.{statement}
 use Rattle.table_afresh.proofs.afresh.write_table.Tie as tie

@@ -1,0 +1,2 @@
+pub mod AlongRows
+pub mod NodeSums
