@@ -1,6 +1,7 @@
 // The nodes at a step: the value of each, and its head.
 ghost use mathlib.Core.Path.{_≡_};
 ghost use Prim.Native.Nat.{_≤_};
+ghost use Rattle.whole_root.specs.Table.{IsTable};
 ghost use Rattle.job.specs.Job.{scheduled};
 ghost use Rattle.job.specs.Format.{jobOf};
 ghost use Rattle.job.specs.Questions.{Accepted};
@@ -29,9 +30,9 @@ pub fn values_at(job: &[u8], step: usize) -> [f64; 32]
     values
 }
 
-// H of each node, from its value and its sums.
-pub fn node_heads(job: &[u8], values: [f64; 32], sums: [Sums; 32]) -> [f64; 32]
-    requires { ⌜ Accepted (now job) ⌝ }
+// H of each node, from its value and its sums; `roots` is the table that starts a root.
+pub fn node_heads(roots: &[u16; 768], job: &[u8], values: [f64; 32], sums: [Sums; 32]) -> [f64; 32]
+    requires { ⌜ (IsTable (now roots)) × (Accepted (now job)) ⌝ }
     ensures { λ r. ⌜ r ≡ overNodes (now (job .entry)) (headBy (now (job .entry)) values sums) ⌝ }
 {
     let nodes = job::tables::nodes(job);
@@ -40,7 +41,7 @@ pub fn node_heads(job: &[u8], values: [f64; 32], sums: [Sums; 32]) -> [f64; 32]
     let mut node = 0;
     while node < n {
         let with_value = job::nodes::node_with(nodes, node, values[node]);
-        heads[node] = wave::node_head(with_value, sums[node]);
+        heads[node] = wave::node_head(roots, with_value, sums[node]);
         node += 1;
     }
     heads

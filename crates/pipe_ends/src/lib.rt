@@ -3,6 +3,7 @@
 ghost use mathlib.Core.Path.{_≡_};
 ghost use Prim.Native.Nat.{_+_, _*_, _<_, _≤_};
 ghost use lib.ListN.{length, drop};
+ghost use Rattle.whole_root.specs.Table.{IsTable};
 ghost use Rattle.job.specs.Format.{pipeTable, pipeCount};
 ghost use Rattle.job.specs.Questions.{Accepted};
 ghost use Rattle.node_sums.specs.FromRows.{Lent, valueIn, constantSums, nodeSums};
@@ -62,9 +63,10 @@ fn ends_from_k(job: &[u8], nodes: &[f64; 32], spare: &mut [f64])
     }
 }
 
-// The new head and flow at both ends of each pipe into the spare. `values` has v of each node at the step, `constant`
-// the sums of the nodes before any K.
+// The new head and flow at both ends of each pipe into the spare. `roots` is the table that starts a root,
+// `values` has v of each node at the step, `constant` the sums of the nodes before any K.
 pub fn write_ends(
+    roots: &[u16; 768],
     job: &[u8],
     values: [f64; 32],
     constant: [Sums; 32],
@@ -72,13 +74,13 @@ pub fn write_ends(
     flows: &[f64],
     spare: &mut [f64],
 )
-    requires { ⌜ (Lent (now job) (now heads) (now flows)) × (constant ≡ constantSums (now job))
-        × (pipeCount (pipeTable (now job)) * 4 ≤ length (now spare)) ⌝ }
+    requires { ⌜ (IsTable (now roots)) × (Lent (now job) (now heads) (now flows))
+        × (constant ≡ constantSums (now job)) × (pipeCount (pipeTable (now job)) * 4 ≤ length (now spare)) ⌝ }
     ensures { λ _. ⌜ (let end = pipeCount (pipeTable (now (job .entry))) * 4 in
         (EndsIn (now (job .entry)) (valueIn values) (now (heads .entry)) (now (flows .entry)) (now (spare .exit)))
         × (drop end (now (spare .exit)) ≡ drop end (now (spare .entry)))) ⌝ }
 {
     let sums = keep_k(job, constant, heads, flows, spare);
-    let nodes = node_heads::node_heads(job, values, sums);
+    let nodes = node_heads::node_heads(roots, job, values, sums);
     ends_from_k(job, &nodes, spare);
 }

@@ -15,7 +15,8 @@ pub struct Ended {
     pub found: Scan,
 }
 
-// Does `count` steps after `done`, fewer only where one stops the run. T of the nodes is worked out once.
+// Does `count` steps after `done`, fewer only where one stops the run. The table that starts a root is made
+// once, and T of the nodes is worked out once.
 pub fn run(
     job: &[u8],
     done: u64,
@@ -31,11 +32,22 @@ pub fn run(
     ensures { λ r. ⌜ StepsInRows (now (job .entry)) done count (before heads flows highest lowest spare)
         (after heads flows highest lowest spare) r ⌝ }
 {
+    let roots = whole_root::table::roots();
     let sums = node_sums::constant_sums(job);
     let mut i = 0;
     while i < count {
         let next = i + 1;
-        let ended = one_step::one_step(job, done + i, sums, heads, flows, highest, lowest, spare);
+        let ended = one_step::one_step(
+            &roots,
+            job,
+            done + i,
+            sums,
+            heads,
+            flows,
+            highest,
+            lowest,
+            spare,
+        );
         let found = ended.found;
         if one_step::stops(found) {
             return ended;

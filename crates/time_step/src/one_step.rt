@@ -1,6 +1,7 @@
 // One step over the lent rows, in place.
 ghost use mathlib.Core.Path.{_≡_};
 ghost use Prim.Native.Nat.{_+_, _≤_};
+ghost use Rattle.whole_root.specs.Table.{IsTable};
 ghost use Rattle.node_sums.specs.FromRows.{constantSums};
 ghost use Rattle.recurrence.specs.Slices.{lent, before, after};
 ghost use Rattle.time_step.specs.StepsInRows as inner;
@@ -19,9 +20,10 @@ pub(super) fn stops(found: Scan) -> bool
     }
 }
 
-// The step after `done` steps; `sums` has the sums of the nodes before any K. Where the check finds a fault
+// The step after `done` steps; `roots` is the table that starts a root, `sums` has the sums of the nodes before any K. Where the check finds a fault
 // nothing but the spare is written.
 pub(super) fn one_step(
+    roots: &[u16; 768],
     job: &[u8],
     done: u64,
     sums: [Sums; 32],
@@ -31,7 +33,7 @@ pub(super) fn one_step(
     lowest: &mut [f64],
     spare: &mut [f64],
 ) -> Ended
-    requires { ⌜ (inner.Ready (now job) (lent heads flows highest lowest spare))
+    requires { ⌜ (IsTable (now roots)) × (inner.Ready (now job) (lent heads flows highest lowest spare))
         × (done + 1 ≤ 1000000) × (sums ≡ constantSums (now job)) ⌝ }
     ensures { λ r. ⌜ inner.StepsInRows (now (job .entry)) done 1 (before heads flows highest lowest spare)
         (after heads flows highest lowest spare) r ⌝ }
@@ -39,7 +41,7 @@ pub(super) fn one_step(
     let after = done + 1;
     let step = after as usize;
     let values = node_heads::values_at(job, step);
-    pipe_ends::write_ends(job, values, sums, heads, flows, spare);
+    pipe_ends::write_ends(roots, job, values, sums, heads, flows, spare);
     let found = step_check::check(job, heads, flows, spare);
     if stops(found) {
         return Ended { steps: done, found };

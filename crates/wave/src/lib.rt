@@ -1,6 +1,7 @@
 // The wave equations along a reach, and the nodes. Each function equals its definition in specs/ bit for bit.
 ghost use mathlib.Core.Path.{_≡_};
 ghost use Rattle.fields.specs.Real.{infinity64};
+ghost use Rattle.whole_root.specs.Table.{IsTable};
 ghost use Rattle.wave.specs.Wave as wave;
 ghost use Rattle.wave.specs.Nodes as nodes;
 ghost use Rattle.wave.specs.Adding as adding;
@@ -131,10 +132,11 @@ impl Sums {
     }
 }
 
-// ---- the nodes
+// ---- the nodes: `roots` is the table that starts a root
 
 // q of an opening into open air, by w and y: nothing comes back, and a root that is not taken is not judged.
-fn orifice_flow(w: f64, y: f64) -> Discharge
+fn orifice_flow(roots: &[u16; 768], w: f64, y: f64) -> Discharge
+    requires { ⌜ IsTable (now roots) ⌝ }
     ensures { λ r. ⌜ r ≡ nodes.orificeFlow w y ⌝ }
 {
     if !(y > 0.0) | (w == 0.0) {
@@ -142,29 +144,31 @@ fn orifice_flow(w: f64, y: f64) -> Discharge
     }
     let g = w * w + 4.0 * (w * y);
     if fields::is_finite(g) {
-        Discharge::Flow(((y + y) * w) / (w + root::root_of(g)))
+        Discharge::Flow(((y + y) * w) / (w + root::root_by(roots, g)))
     } else {
         Discharge::NotFinite
     }
 }
 
 // q of a valve.
-fn valve_flow(opening: f64, a: f64, b: f64, sums: Sums) -> Discharge
+fn valve_flow(roots: &[u16; 768], opening: f64, a: f64, b: f64, sums: Sums) -> Discharge
+    requires { ⌜ IsTable (now roots) ⌝ }
     ensures { λ r. ⌜ r ≡ nodes.valveFlow opening a b sums ⌝ }
 {
     let w = ((opening * a) * (opening * a)) / sums.t;
     let y = sums.b - sums.t * b;
-    orifice_flow(w, y)
+    orifice_flow(roots, w, y)
 }
 
 // q of a pump, by y; t is T.
-fn lift_flow(b: f64, t: f64, y: f64) -> Discharge
+fn lift_flow(roots: &[u16; 768], b: f64, t: f64, y: f64) -> Discharge
+    requires { ⌜ IsTable (now roots) ⌝ }
     ensures { λ r. ⌜ r ≡ nodes.liftFlow b t y ⌝ }
 {
     if y > 0.0 {
         let g = 1.0 + 4.0 * ((b * t) * y);
         if fields::is_finite(g) {
-            Discharge::Flow((y + y) / (1.0 + root::root_of(g)))
+            Discharge::Flow((y + y) / (1.0 + root::root_by(roots, g)))
         } else {
             Discharge::NotFinite
         }
@@ -174,12 +178,13 @@ fn lift_flow(b: f64, t: f64, y: f64) -> Discharge
 }
 
 // q of a pump.
-fn pump_flow(speed: f64, a: f64, b: f64, c: f64, sums: Sums) -> Discharge
+fn pump_flow(roots: &[u16; 768], speed: f64, a: f64, b: f64, c: f64, sums: Sums) -> Discharge
+    requires { ⌜ IsTable (now roots) ⌝ }
     ensures { λ r. ⌜ r ≡ nodes.pumpFlow speed a b c sums ⌝ }
 {
     let h = c + (speed * speed) * a;
     let y = sums.t * h - sums.b;
-    lift_flow(b, sums.t, y)
+    lift_flow(roots, b, sums.t, y)
 }
 
 // Plus infinity.
@@ -230,17 +235,18 @@ impl Sums {
 }
 
 // H of a node, by its kind; judged for every kind.
-pub fn node_head(n: Node, sums: Sums) -> f64
+pub fn node_head(roots: &[u16; 768], n: Node, sums: Sums) -> f64
+    requires { ⌜ IsTable (now roots) ⌝ }
     ensures { λ r. ⌜ r ≡ nodes.nodeHead n sums ⌝ }
 {
     match n {
         Node::Junction(draw) => sums.judged((sums.b - draw) / sums.t),
         Node::Reservoir(level) => sums.judged(level),
         Node::Valve(opening, a, b) => {
-            sums.judged(sums.head_less(valve_flow(opening, a, b, sums)))
+            sums.judged(sums.head_less(valve_flow(roots, opening, a, b, sums)))
         }
         Node::Pump(speed, a, b, c) => {
-            sums.judged(sums.head_more(pump_flow(speed, a, b, c, sums)))
+            sums.judged(sums.head_more(pump_flow(roots, speed, a, b, c, sums)))
         }
     }
 }

@@ -4,9 +4,10 @@ ghost use mathlib.Core.Bool.{cond};
 ghost use Prim.Native.Nat.{_+_, _*_, _^_, _≤_, _<_};
 ghost use lib.Dec.{leb};
 ghost use Rattle.whole_root.specs.WholeRoot.{IsWholeRoot};
+ghost use Rattle.whole_root.specs.Table.{IsTable};
 ghost use Rattle.whole_root.specs.Digits.{LeavesRest, FirstDigits};
 
-mod table;
+pub mod table;
 
 // A whole number's root and what its square leaves.
 pub struct Whole {
@@ -24,11 +25,11 @@ fn reaches(r: u64, n: u64) -> u64
 
 // The root of a number of 23 or 24 binary digits. The table has the root of its ten leading digits with zeros
 // after them, which is at most four too small.
-fn first_digits(top: u64) -> u64
-    requires { ⌜ (2 ^ 22 ≤ top) × (top < 2 ^ 24) ⌝ }
+fn first_digits(roots: &[u16; 768], top: u64) -> u64
+    requires { ⌜ (IsTable (now roots)) × (2 ^ 22 ≤ top) × (top < 2 ^ 24) ⌝ }
     ensures { λ r. ⌜ IsWholeRoot top r ⌝ }
 {
-    let t = table::entry((top / 16384) as usize);
+    let t = table::entry(roots, (top / 16384) as usize);
     let one = reaches(t + 1, top);
     let two = reaches(t + 2, top);
     let three = reaches(t + 3, top);
@@ -65,12 +66,12 @@ fn later_digits(first: Whole, low: u64) -> Whole
 }
 
 // The root of `m * 2^52`, of 53 binary digits.
-pub fn whole_root(m: u64) -> Whole
-    requires { ⌜ (2 ^ 52 ≤ m) × (m < 2 ^ 54) ⌝ }
+pub fn whole_root(roots: &[u16; 768], m: u64) -> Whole
+    requires { ⌜ (IsTable (now roots)) × (2 ^ 52 ≤ m) × (m < 2 ^ 54) ⌝ }
     ensures { λ r. ⌜ LeavesRest (m * 2 ^ 52) (r .root) (r .rest) ⌝ }
 {
     let top = m / 0x4000_0000;
-    let root = first_digits(top);
+    let root = first_digits(roots, top);
     let rest = top - root * root;
     later_digits(Whole { root, rest }, m % 0x4000_0000)
 }

@@ -776,24 +776,23 @@ const ROOTS: [u16; 768] = [
     4093,
 ];
 
+// The table. A constant is copied to wherever it is used, so that who takes many roots makes the table once and lends it.
+pub fn roots() -> [u16; 768]
+    ensures { λ r. ⌜ IsTable r ⌝ }
+{
+    ROOTS
+}
+
 fn wide(t: u16) -> u64
     ensures { λ r. ⌜ r ≡ t ⌝ }
 {
     t as u64
 }
 
-// Entry i of a table that keeps the rule.
-fn entry_of(table: &[u16], i: usize) -> u64
-    requires { ⌜ (IsTable (now table)) × (256 ≤ i) × (i < 1024) ⌝ }
-    ensures { λ r. ⌜ IsWholeRoot (16384 * i) r ⌝ }
-{
-    wide(table[i - 256])
-}
-
 // Entry i.
-pub fn entry(i: usize) -> u64
-    requires { ⌜ (256 ≤ i) × (i < 1024) ⌝ }
+pub fn entry(roots: &[u16; 768], i: usize) -> u64
+    requires { ⌜ (IsTable (now roots)) × (256 ≤ i) × (i < 1024) ⌝ }
     ensures { λ r. ⌜ IsWholeRoot (16384 * i) r ⌝ }
 {
-    entry_of(&ROOTS, i)
+    wide(roots[i - 256])
 }

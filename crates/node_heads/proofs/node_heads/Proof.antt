@@ -19,10 +19,10 @@ use Rattle.node_heads.proofs.node_heads.Statement.{statement}
 use Rattle.node_heads.proofs.node_heads.Tie as tie
 
 abbrev Inv-loop : tie.InvT-loop
-Inv-loop job values sums nodes n heads₀ node₀ heads node = Upto (headBy job values sums) (replicate 32 zero64) 0 n node heads
+Inv-loop roots job values sums nodes n heads₀ node₀ heads node = Upto (headBy job values sums) (replicate 32 zero64) 0 n node heads
 
 abbrev μ-loop : tie.MeasureT-loop
-μ-loop job values sums nodes n heads₀ node₀ heads node = n - node
+μ-loop roots job values sums nodes n heads₀ node₀ heads node = n - node
 
 -- the function's entry
 abbrev start : tie.After-nodes Inv-loop μ-loop → tie.Start Inv-loop μ-loop
@@ -33,23 +33,23 @@ here : (c : tie.In-loop Inv-loop μ-loop) → c .before .loop .node < nodeCount 
 here c = omega (arith, ap length (c .before .before .nodes .ensures))
 
 low : (c : tie.In-loop Inv-loop μ-loop) → c .before .loop .node < 32
-low c = omega (arith, few-nodes _ (start (c .before .before) .pre), here c)
+low c = omega (arith, few-nodes _ (start (c .before .before) .pre .1), here c)
 
 node-with-requires : tie.Need-node-with-requires Inv-loop μ-loop
 node-with-requires c κs =
     let table : tie.After-nodes Inv-loop μ-loop = c .before .before in
-    (rw (table .nodes .ensures) (tables-right _ (start table .pre) .nodes .figures), c .loop-test .taken)
+    (rw (table .nodes .ensures) (tables-right _ (start table .pre .1) .nodes .figures), c .loop-test .taken)
 
 -- the node read is the recurrence's
 node-read : (c : tie.After-node-with Inv-loop μ-loop)
     → let args = start (c .before .before .before) .args in
-    let values = args .t2 in
+    let values = args .t3 in
     c .node-with .result ≡ nodesWith (jobOf (args .job .now)) (valueIn values) (c .before .before .loop .node)
 unfolding nodesWith nodeIn
 node-read c =
     let table : tie.After-nodes Inv-loop μ-loop = c .before .before .before in
     let node = c .before .before .loop .node in
-    let v = valueIn (start table .args .t2) node in
+    let v = valueIn (start table .args .t3) node in
     c .node-with .ensures
     ∙ ap (λ (nodes : List ℕ). withValue (kindIn nodes node) v) (table .nodes .ensures)
     ∙ sym (ap (λ (z : ScheduledNode). withValue (z .kind) v) (node-is _ node (here (c .before))))
@@ -69,7 +69,7 @@ node-heads-spec =
     (tie.spec
     Inv-loop
     μ-loop
-    (λ c κs. pairs-accepted _ (c .before .pre))
+    (λ c κs. pairs-accepted _ (c .before .pre .1))
     (λ c. upto-none)
     (λ c. omega (arith, low c))
     low

@@ -18,8 +18,8 @@ returns c =
     let kept : tie.After-keep-k = headed .before .before .before in
     let pre = start kept .pre in
     let values = start kept .args .values in
-    let nodes = heads-by-sums _ (pre .0 .accepted) _ _ values (kept .keep-k .ensures .0) (headed .node-heads .ensures) in (
-      ends-in _ (pre .0 .accepted) _ _ _ nodes (kept .keep-k .ensures .1) (ended .ends-from-k .ensures .0),
+    let nodes = heads-by-sums _ (pre .1 .accepted) _ _ values (kept .keep-k .ensures .0) (headed .node-heads .ensures) in (
+      ends-in _ (pre .1 .accepted) _ _ _ nodes (kept .keep-k .ensures .1) (ended .ends-from-k .ensures .0),
       ended .ends-from-k .ensures .1 ∙ kept .keep-k .ensures .2,
     )
 

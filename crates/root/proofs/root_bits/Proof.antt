@@ -59,7 +59,7 @@ whole-root-requires c κs =
     let b = c .before .args .b in
     let d = c .widened .result .digits in
     let p = c .widened .result .power in
-    (still-full b d p (c .widened .ensures), evened b d p (c .widened .ensures))
+    (c .before .pre .0, still-full b d p (c .widened .ensures), evened b d p (c .widened .ensures))
 
 -- the bound on the root, once it is taken
 short : (c : tie.After-whole-root) → c .whole-root .result .root < 2 ^ 53

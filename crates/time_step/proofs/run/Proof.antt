@@ -9,11 +9,11 @@ use Rattle.time_step.proofs.run.Statement.{statement}
 use Rattle.time_step.proofs.run.Tie as tie
 
 abbrev Inv-loop : tie.InvT-loop
-Inv-loop job done count heads₀ flows₀ highest₀ lowest₀ spare₀ sums i₀ heads flows highest lowest spare i =
+Inv-loop job done count heads₀ flows₀ highest₀ lowest₀ spare₀ roots sums i₀ heads flows highest lowest spare i =
     Underway job done count i (gathered heads₀ flows₀ highest₀ lowest₀ spare₀) (gathered heads flows highest lowest spare)
 
 abbrev μ-loop : tie.MeasureT-loop
-μ-loop job done count heads₀ flows₀ highest₀ lowest₀ spare₀ sums i₀ heads flows highest lowest spare i = count - i
+μ-loop job done count heads₀ flows₀ highest₀ lowest₀ spare₀ roots sums i₀ heads flows highest lowest spare i = count - i
 
 loop-holds : tie.Need-loop-holds Inv-loop μ-loop
 loop-holds c = way-none _ _ _ _
@@ -23,24 +23,25 @@ abbrev begin : tie.After-slice-known5 Inv-loop μ-loop → tie.Start Inv-loop μ
 begin c = c .before .before .before .before .before .before
 
 abbrev turn : tie.After-one-step Inv-loop μ-loop → tie.In-loop Inv-loop μ-loop
-turn c = c .before .before .before .before .before .before
+turn c = c .before .before .before .before .before .before .before
 
 abbrev stepped : tie.After-stops Inv-loop μ-loop → tie.After-one-step Inv-loop μ-loop
 stepped c = let highest : tie.After-highest Inv-loop μ-loop = c .before .before .before .before .before .before in highest .before .before .before .before .before
 
 one-step-requires : tie.Need-one-step-requires Inv-loop μ-loop
 one-step-requires c κs =
-    let in-loop : tie.In-loop Inv-loop μ-loop = c .before .before .before .before .before in
+    let in-loop : tie.In-loop Inv-loop μ-loop = c .before .before .before .before .before .before in
     let sums : tie.After-constant-sums Inv-loop μ-loop = in-loop .before .before in
-    let pre = begin (sums .before) .pre in
-    (way-ready _ _ _ _ (in-loop .before .loop .inv) (pre .0), omega (arith, pre .1, in-loop .loop-test .taken), sums .constant-sums .ensures)
+    let made : tie.After-roots Inv-loop μ-loop = sums .before in
+    let pre = begin (made .before) .pre in
+    (made .roots .ensures, way-ready _ _ _ _ (in-loop .before .loop .inv) (pre .0), omega (arith, pre .1, in-loop .loop-test .taken), sums .constant-sums .ensures)
 
 -- in full, so that a turn that counts more steps than it does is refused by the state that it leaves
 loop-again : tie.Need-loop-again Inv-loop μ-loop
 loop-again c =
     let v = stepped (c .before) in
     let underway =
-    way-next _ _ _ _ (turn v .before .loop .inv) (v .one-step .ensures) (turn v .loop-test .taken) (v .one-step .kept .1 .1 .1)
+    way-next _ _ _ _ (turn v .before .loop .inv) (v .one-step .ensures) (turn v .loop-test .taken) (v .one-step .kept .1 .1 .1 .1)
     (sym (c .before .stops .ensures) ∙ c .if1 .left) in
     record {
       within = omega (arith, turn v .loop-test .taken);
@@ -62,7 +63,8 @@ run-spec =
     (tie.spec
     Inv-loop
     μ-loop
-    (λ c κs. begin c .pre .0 .accepted)
+    (λ c κs. search needs)
+    (λ c κs. begin (c .before) .pre .0 .accepted)
     loop-holds
     (λ c. search needs)
     (λ c. search needs)

@@ -10,7 +10,7 @@ returns : tie.Need-returns
 unfolding liftFlow pumpArgument rooted
 returns c =
     let f = c .before .before in
-    rw (c .root-of .ensures, f .before .if1 .taken, sym (f .is-finite .ensures) ∙ c .before .if2 .taken) refl
+    rw (c .root-by .ensures, f .before .if1 .taken, sym (f .is-finite .ensures) ∙ c .before .if2 .taken) refl
 
 returns-2 : tie.Need-returns-2
 unfolding liftFlow pumpArgument rooted

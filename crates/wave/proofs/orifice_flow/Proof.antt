@@ -21,7 +21,7 @@ returns-2 : tie.Need-returns-2
 unfolding orificeFlow orificeRate orificeArgument rooted
 returns-2 c =
     let f = c .before .before in
-    rw (c .root-of .ensures, f .before .if1 .left, sym (f .is-finite .ensures) ∙ c .before .if2 .taken) refl
+    rw (c .root-by .ensures, f .before .if1 .left, sym (f .is-finite .ensures) ∙ c .before .if2 .taken) refl
 
 returns-3 : tie.Need-returns-3
 unfolding orificeFlow orificeArgument rooted

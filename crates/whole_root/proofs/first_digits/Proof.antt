@@ -13,7 +13,7 @@ use Rattle.whole_root.proofs.first_digits.Tie as tie
 
 -- the entry fits 12 digits
 small : (c : tie.After-entry) → c .entry .result < 4096
-small c = let top = c .before .args .top in root-below top (c .entry .result) 4096 (not-above-top top (c .entry .result) (c .entry .ensures) (c .before .pre .0)) (c .before .pre .1)
+small c = let top = c .before .args .top in root-below top (c .entry .result) 4096 (not-above-top top (c .entry .result) (c .entry .ensures) (c .before .pre .1)) (c .before .pre .2)
 
 -- what the calls of `reaches` answer, together
 counted : (top t a b c d : ℕ) → a ≡ cond (leb ((t + 1) * (t + 1)) top) 1 0 → b ≡ cond (leb ((t + 2) * (t + 2)) top) 1 0
@@ -29,7 +29,7 @@ returns c =
     let at : tie.After-entry = one .before in
     let top = at .before .args .top in
     let t = at .entry .result in
-    subst (λ (x : ℕ). IsWholeRoot top (t + x)) (counted top t _ _ _ _ (one .reaches .ensures .1) (two .reaches2 .ensures .1) (three .reaches3 .ensures .1) (c .reaches4 .ensures .1)) (corrected top t (at .entry .ensures) (at .before .pre .0))
+    subst (λ (x : ℕ). IsWholeRoot top (t + x)) (counted top t _ _ _ _ (one .reaches .ensures .1) (two .reaches2 .ensures .1) (three .reaches3 .ensures .1) (c .reaches4 .ensures .1)) (corrected top t (at .entry .ensures) (at .before .pre .1))
 
 pub first-digits-spec : {M : Type 1} → statement M
 first-digits-spec =

@@ -26,27 +26,27 @@ write-ends-requires : tie.Need-write-ends-requires
 write-ends-requires c κs =
     let read : tie.After-values-at = c .before .before .before in
     let pre = begin (read .before) .pre in
-    (rows-lent (pre .0), pre .2, spare-long (pre .0))
+    (pre .0, rows-lent (pre .1), pre .3, spare-long (pre .1))
 
 check-requires : tie.Need-check-requires
 check-requires c κs =
     let e : tie.After-write-ends = c .before .before .before .before .before in
-    let r = start e .pre .0 in
-    (rows-lent r, omega (arith, spare-long r, e .write-ends .kept .1 .1 .1 .1 .1 .0))
+    let r = start e .pre .1 in
+    (rows-lent r, omega (arith, spare-long r, e .write-ends .kept .1 .1 .1 .1 .1 .1 .0))
 
 returns : tie.Need-returns
 returns c =
     let found : tie.After-check = c .before .before in
     let e = ends found in
-    one-stops _ _ _ (start e .pre .0) _ (values e .values-at .ensures) _ (found .check .ensures _ (e .write-ends .ensures .0)) _ (e .write-ends .ensures .1)
+    one-stops _ _ _ (start e .pre .1) _ (values e .values-at .ensures) _ (found .check .ensures _ (e .write-ends .ensures .0)) _ (e .write-ends .ensures .1)
     (sym (c .before .stops .ensures) ∙ c .if1 .taken)
 
 commit-requires : tie.Need-commit-requires
 commit-requires c κs =
     let sound : tie.Else1 = c .before .before .before .before .before in
     let e = ends (sound .before .before) in
-    let r = start e .pre .0 in
-    ((rows-lent r, omega (arith, spare-long r, e .write-ends .kept .1 .1 .1 .1 .1 .0)), (ready-enough r highest, ready-enough r lowest))
+    let r = start e .pre .1 in
+    ((rows-lent r, omega (arith, spare-long r, e .write-ends .kept .1 .1 .1 .1 .1 .1 .0)), (ready-enough r highest, ready-enough r lowest))
 
 returns-2 : tie.Need-returns-2
 returns-2 c =
@@ -55,7 +55,7 @@ returns-2 c =
     let sound : tie.Else1 = done .before .before .before .before .before .before in
     let found : tie.After-check = sound .before .before in
     let e = ends found in
-    one-done _ _ _ (start e .pre .0) _ (values e .values-at .ensures) _ (found .check .ensures _ (e .write-ends .ensures .0)) _ (e .write-ends .ensures .1)
+    one-done _ _ _ (start e .pre .1) _ (values e .values-at .ensures) _ (found .check .ensures _ (e .write-ends .ensures .0)) _ (e .write-ends .ensures .1)
     (done .commit .ensures _ (e .write-ends .ensures .0)) (sym (sound .before .stops .ensures) ∙ sound .if1 .left)
 
 pub one-step-spec : {M : Type 1} → statement M
@@ -63,7 +63,7 @@ one-step-spec =
     tie.close
     (tie.spec
     (λ c. search needs)
-    (λ c κs. (begin c .pre .0 .accepted, search needs))
+    (λ c κs. (begin c .pre .1 .accepted, search needs))
     write-ends-requires
     check-requires
     (λ c κs. search needs)

@@ -1,14 +1,19 @@
--- The constant keeps the rule: one test, which antt computes over the 768 numbers as they stand in the code. Assumes nothing.
-use mathlib.Core.Path.{refl}
+-- Entry i stands at place i - 256. Assumes nothing.
+use mathlib.Core.Path.{_≡_, sym, subst}
+use Prim.Native.Nat.{ℕ, _+_, _-_, _*_}
+use native.Mathlib.Omega.{arith}
 use borrow.Author.Needs.{needs}
-use Rattle.whole_root.specs.Table.{areEntries}
-use Rattle.whole_root.proofs.TableRule.{is-table}
+use Rattle.whole_root.specs.WholeRoot.{IsWholeRoot}
 use Rattle.whole_root.proofs.table.entry.Statement.{statement}
 use Rattle.whole_root.proofs.table.entry.Tie as tie
 
-entry-of-requires : tie.Need-entry-of-requires
-unfolding areEntries
-entry-of-requires c κs = (is-table _ refl refl, c .before .pre .0, c .before .pre .1)
+returns : tie.Need-returns
+returns c =
+    let begun : tie.Start = c .before .before in
+    let i = begun .args .i in
+    let place : 256 + (i - 256) ≡ i = omega arith in
+    let right = begun .pre .0 .entry (i - 256) (omega arith) in
+    subst (λ (j : ℕ). IsWholeRoot (16384 * j) (c .wide .result)) place (subst (λ (t : ℕ). IsWholeRoot (16384 * (256 + (i - 256))) t) (sym (c .wide .ensures)) right)
 
 pub entry-spec : {M : Type 1} → statement M
-entry-spec = tie.close (tie.spec (λ c. search needs) entry-of-requires (λ c. search needs))
+entry-spec = tie.close (tie.spec (λ c. search needs) (λ c. search needs) (λ c. search needs) (λ c κs. search needs) returns)

@@ -10,12 +10,12 @@ use lib.Ieee.{binary64, fits, ofBits, toBits, nanBits}
 use lib.Ieee.Bits.{ofBits-toBits}
 use Rattle.root.specs.Root.{rootOf}
 use Rattle.root.proofs.AnswerLaws.{nan-answer, no-nan, zero-answer, minus-zero-answer, high-answer, root-no-nan, value-answer}
-use Rattle.root.proofs.root_of.Statement.{statement}
-use Rattle.root.proofs.root_of.Tie as tie
+use Rattle.root.proofs.root_by.Statement.{statement}
+use Rattle.root.proofs.root_by.Tie as tie
 
 -- what owning an `f64` tells: the format holds it
 held : (c : tie.Start) → T (fits binary64 (c .args .x))
-held c = subst T (sym (c .good .0 .1)) tt
+held c = subst T (sym (c .good .1 .0 .1)) tt
 
 -- the answer at x, from the answer at x's pattern
 at : (c : tie.Start) (b : ℕ) → toBits binary64 (c .args .x) ≡ b → rootOf (ofBits binary64 b) ≡ rootOf (c .args .x)
@@ -53,8 +53,8 @@ returns-5 c =
     let b = toBits binary64 (s .args .x) in
     ap (ofBits binary64) (c .root-bits .ensures) ∙ value-answer b (above (c .before)) (c .before .if4 .left) ∙ at s b refl
 
-pub root-of-spec : {M : Type 1} → statement M
-root-of-spec =
+pub root-by-spec : {M : Type 1} → statement M
+root-by-spec =
     tie.close
     (tie.spec
     returns
