@@ -1,6 +1,8 @@
 //! The root on many patterns, in every bit: the compiled one against the machine's, which IEEE 754 has
 //! to nearest, and against the reference's.
 
+mod table;
+
 use crate::cut_down::square_to;
 use crate::ours;
 use crate::tally::Tally;
@@ -27,12 +29,14 @@ const DRAWN: [(&str, Draw); 6] = [
 const DRAWS: usize = 640_000;
 const BINADE_ENDS: &str = "roots at the ends of every binade";
 const RANGE_ENDS: &str = "roots at the ends of the range";
+const ENTRIES: &str = "roots about every entry of the table that starts a root";
 
 /// What must be counted, and how often at least.
 pub fn all() -> Vec<(&'static str, u64)> {
     let mut cases = vec![(ROOTS, ROOTS_AT_LEAST), (ABOVE, 1), (BELOW, 1), (EXACT, 1)];
     // Eight of each binade have no sign; of those drawn a part is refused.
-    cases.extend([(BINADE_ENDS, 8 * 2047), (RANGE_ENDS, 1)]);
+    cases.extend([(BINADE_ENDS, 8 * 2047), (RANGE_ENDS, 1), (ENTRIES, 6 * 768)]);
+    cases.extend(table::TOO_SMALL.map(|name| (name, 100)));
     cases.extend(DRAWN.map(|(name, _)| (name, DRAWS as u64)));
     cases
 }
@@ -41,6 +45,8 @@ pub fn roots(tally: &mut Tally) {
     let mut random = Random::new(106);
     compare_each(tally, RANGE_ENDS, range_ends().into_iter());
     compare_each(tally, BINADE_ENDS, (0..2047).flat_map(binade_ends));
+    compare_each(tally, ENTRIES, table::about_entries().map(|(bits, _)| bits));
+    table::about_entries().for_each(|(_, short)| tally.count(table::TOO_SMALL[short], 1));
     for (name, draw) in DRAWN {
         compare_each(tally, name, (0..DRAWS).flat_map(|_| draw(&mut random)));
     }
