@@ -34,11 +34,6 @@ module _ {old new : List ℕ} {at next : ℕ} where
   all-lines : {n : ℕ} → n ≡ 768 → Written old at (linesText entryLine n) new next → Written old at tableText new next
   all-lines q w = subst (λ (x : ℕ). Written old at (linesText entryLine x) new next) q w
 
-small : (c : tie.After-root-from Inv-loop μ-loop) → c .root-from .result < 4096
-small c =
-    let k = c .before .before .loop .k in
-    root-below (16384 * (256 + k)) (c .root-from .result) 4096 (c .root-from .ensures .low) (omega (arith, c .before .loop-test .taken))
-
 loop-again : tie.Need-loop-again Inv-loop μ-loop
 unfolding linesText
 loop-again c =
@@ -50,6 +45,11 @@ loop-again c =
     let right = is-entry k (entry .root-from .result) (entry .before .loop-test .taken) (entry .root-from .ensures) in
     let stored = line-of right (line .put-alone .ensures .0) in
     (omega arith, omega (arith, inv .1, line .put-alone .ensures .1), omega arith, omega (arith, entry .root-from .ensures .low), rw (add-one k) (joined (inv .4) stored))
+
+small : (c : tie.After-root-from Inv-loop μ-loop) → c .root-from .result < 4096
+small c =
+    let k = c .before .before .loop .k in
+    root-below (16384 * (256 + k)) (c .root-from .result) 4096 (c .root-from .ensures .low) (omega (arith, c .before .loop-test .taken))
 
 returns : tie.Need-returns Inv-loop μ-loop
 returns c =
