@@ -38,31 +38,28 @@ fn first_digits(roots: &[u16; 768], top: u64) -> u64
 }
 
 // The digits of a root after the first twelve, one a turn. The root is kept twice over and in its place, with zeros
-// for the digits to come, the last of which counts `unit`; what its square leaves is kept divided by `unit`.
+// for the digits to come, which count less than `unit`; what its square leaves is kept twice over, divided by
+// `unit`. What a digit takes away is chosen before it is taken, so that no branch is compiled and the doubling does
+// not wait for the choice.
 fn later_digits(first: Whole, low: u64) -> Whole
     requires { ⌜ FirstDigits (first .root) (first .rest) low ⌝ }
     ensures { λ r. ⌜ LeavesRest
         (((first .root * first .root + first .rest) * 2 ^ 30 + low) * 2 ^ 52) (r .root) (r .rest) ⌝ }
 {
-    let mut rest = first.rest * 0x200_0000_0000 + low * 0x800;
+    let mut down = first.rest * 0x400_0000_0000 + low * 0x1000;
     let mut twice = first.root * 0x400_0000_0000;
     let mut unit: u64 = 0x200_0000_0000;
     while unit > 1 {
         let place = unit / 2;
-        let down = rest * 2;
         let trial = twice + place;
-        if trial <= down {
-            rest = down - trial;
-            twice = trial + place;
-        } else {
-            rest = down;
-        }
+        let taken = if trial <= down { trial * 2 } else { 0 };
+        twice = if trial <= down { trial + place } else { twice };
+        down = down * 2 - taken;
         unit = place;
     }
-    Whole {
-        root: twice / 2,
-        rest,
-    }
+    let root = twice / 2;
+    let rest = down / 2;
+    Whole { root, rest }
 }
 
 // The root of `m * 2^52`, of 53 binary digits.

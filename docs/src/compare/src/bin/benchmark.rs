@@ -10,7 +10,7 @@ use reference::draft::Draft;
 use reference::rows::{Lengths, RowStore, LONGEST, SPARE};
 use reference::run;
 use reference::samples::timed::{
-    many_pipes, one_long_pipe, short_main, with_longest_schedules, with_one_entry,
+    many_pipes, one_long_pipe, short_main, with_longest_schedules, with_one_entry, with_valve_shut,
 };
 use std::time::Instant;
 
@@ -174,6 +174,8 @@ fn plans() -> Vec<Plan> {
             main_steps,
             101,
         ),
+        // No root is taken: what the one before takes more is a root and the valve's other operations.
+        Plan::new("the same, the valve shut", &with_valve_shut(&short_valve), main_steps, 101),
     ]);
     plans
 }

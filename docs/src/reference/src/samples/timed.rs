@@ -53,6 +53,13 @@ pub fn short_main(pipes: usize) -> Draft {
     draft
 }
 
+/// The same with its valve shut, so that no root is taken.
+pub fn with_valve_shut(draft: &Draft) -> Draft {
+    let mut shut = draft.clone();
+    shut.nodes[1].schedule.fill(0.0);
+    shut
+}
+
 /// The same with every schedule cut to its first entry, counted in table 6.
 pub fn with_one_entry(draft: &Draft) -> Draft {
     let mut cut = draft.in_form(Form::FullTable6);
