@@ -26,7 +26,7 @@ closingText number steps section =
     (cond (eqb number 41) (printed (ascii "parted") (decimal steps ∷ decimal section ∷ []))
     (printed (ascii "refused") (decimal number ∷ []))))
 
--- The lines of the sections 0 to count - 1; `line s` is the line of section s.
+-- The lines 0 to count - 1, one after another; in a listing `line s` is the line of section s.
 unfoldable pub linesText : (ℕ → List ℕ) → ℕ → List ℕ
 linesText line zero = []
 linesText line (suc count) = linesText line count ++ line count

@@ -7,4 +7,4 @@ use Rattle.table_afresh.specs.Figures.{TableLines}
 
 pub table-lines : TableLines
 unfolding wholeRoot digits placesWithin linesText
-table-lines = record { first = refl; last = refl; three = refl }
+table-lines = record { first = refl; last = refl; bytes = refl; three = refl }

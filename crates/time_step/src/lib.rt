@@ -7,6 +7,7 @@ ghost use Rattle.time_step.specs.StepsInRows.{Ready, StepsInRows};
 
 mod one_step;
 
+use one_step::one_step;
 use section::Scan;
 
 // How a run ended: the steps done in all, and what stopped it.
@@ -37,7 +38,7 @@ pub fn run(
     let mut i = 0;
     while i < count {
         let next = i + 1;
-        let ended = one_step::one_step(
+        let ended = one_step(
             &roots,
             job,
             done + i,

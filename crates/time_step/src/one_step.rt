@@ -20,8 +20,8 @@ pub(super) fn stops(found: Scan) -> bool
     }
 }
 
-// The step after `done` steps; `roots` is the table that starts a root, `sums` has the sums of the nodes before any K. Where the check finds a fault
-// nothing but the spare is written.
+// The step after `done` steps; `roots` is the table that starts a root, `sums` has the sums of the nodes before any K.
+// Where the check finds a fault nothing but the spare is written.
 pub(super) fn one_step(
     roots: &[u16; 768],
     job: &[u8],

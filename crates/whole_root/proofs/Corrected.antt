@@ -16,7 +16,7 @@ unfoldable pub reached : ℕ → ℕ → ℕ → ℕ
 reached m t zero = 0
 reached m t (suc n) = reached m t n + cond (leb ((t + suc n) * (t + suc n)) m) 1 0
 
--- t and those that reach are at most the root, and the next is above it or all of them reach
+-- r counts those that reach: t + r is not above the root, and t + r + 1 is above it unless all n reach
 record Near (m t n r : ℕ) : Type 0 where
   few : r ≤ n
   low : (t + r) * (t + r) ≤ m
@@ -36,7 +36,7 @@ module _ {m t n r : ℕ} (k : Near m t n r) where
       })
       (k .high)
 
-  -- it is not, and the root is found by then or just now
+  -- the square of the next number is above m, so that t + r is the root
   next-above : m < (t + suc n) * (t + suc n) → Near m t (suc n) (r + 0)
   next-above z = record {
     few = omega (arith, k .few);
@@ -54,7 +54,7 @@ near m t (suc n) h = go (near m t n h) (leb ((t + suc n) * (t + suc n)) m) (leb-
     go k true y z = next-reaches k (y refl)
     go k false y z = next-above k (z refl)
 
--- where the root is at most n too small
+-- where t is at most n below the root
 put-right : (m t n : ℕ) → t * t ≤ m → m < (t + n + 1) * (t + n + 1) → IsWholeRoot m (t + reached m t n)
 put-right m t n l h =
     let k = near m t n l in
@@ -69,8 +69,8 @@ module _ (top t : ℕ) (i : IsWholeRoot (16384 * (top / 16384)) t) (least : 4194
   pub not-above-top : t * t ≤ top
   not-above-top = omega (arith, i .low)
 
-  four-too-small : top < (t + 4 + 1) * (t + 4 + 1)
-  four-too-small = omega (arith, i .high, at-least-2048)
+  at-most-four-too-small : top < (t + 4 + 1) * (t + 4 + 1)
+  at-most-four-too-small = omega (arith, i .high, at-least-2048)
 
   pub corrected : IsWholeRoot top (t + reached top t 4)
-  corrected = put-right top t 4 not-above-top four-too-small
+  corrected = put-right top t 4 not-above-top at-most-four-too-small

@@ -30,7 +30,9 @@ entry-at (t ∷ ts) i h (suc k) l =
 pub is-table : (ts : List ℕ) → length ts ≡ 768 → areEntries 256 ts ≡ true → IsTable ts
 is-table ts many h = record { many = many; entry = λ (k : ℕ) (l : k < 768). entry-at ts 256 h k (subst (λ (n : ℕ). k < n) (sym many) l) }
 
+-- what keeps the rule of an entry is the entry worked out
+pub the-entry : (k t : ℕ) → k < 768 → IsWholeRoot (16384 * (256 + k)) t → t ≡ entryOf (256 + k)
+the-entry k t l i = let n = 16384 * (256 + k) in one-root n t (entryOf (256 + k)) i (whole-root-is 12 n (omega arith))
+
 pub one-table : OneTable
-one-table ts t k l =
-    let n = 16384 * (256 + k) in
-    one-root n (getD ts k 0) (entryOf (256 + k)) (t .entry k l) (whole-root-is 12 n (omega arith))
+one-table ts t k l = the-entry k (getD ts k 0) l (t .entry k l)

@@ -16,7 +16,7 @@ unfoldable pub areEntries : ℕ → List ℕ → Bool
 areEntries i [] = true
 areEntries i (t ∷ ts) = isEntry i t && areEntries (suc i) ts
 
--- the table: 768 entries, the first of them entry 256
+-- the table: 768 entries, the first of them entry 256, each the greatest whole t with t·t at most 16,384·i
 pub record IsTable (ts : List ℕ) : Type 0 where
   pub many : length ts ≡ 768
   pub entry : (k : ℕ) → k < 768 → IsWholeRoot (16384 * (256 + k)) (getD ts k 0)

@@ -23,8 +23,8 @@ fn reaches(r: u64, n: u64) -> u64
     if r * r <= n { 1 } else { 0 }
 }
 
-// The root of a number of 23 or 24 binary digits. The table has the root of its ten leading digits with zeros
-// after them, which is at most four too small.
+// The root of a number of 23 or 24 binary digits. The table has the root of the same number with zeros for its last
+// fourteen digits, which is at most four too small.
 fn first_digits(roots: &[u16; 768], top: u64) -> u64
     requires { ⌜ (IsTable (now roots)) × (2 ^ 22 ≤ top) × (top < 2 ^ 24) ⌝ }
     ensures { λ r. ⌜ IsWholeRoot top r ⌝ }
@@ -37,28 +37,32 @@ fn first_digits(roots: &[u16; 768], top: u64) -> u64
     t + (one + (two + (three + four)))
 }
 
-// The digits of a root after the first twelve, one a turn. The root is kept twice over and in its place, with zeros
-// for the digits to come, which count less than `unit`; what its square leaves is kept twice over, divided by
-// `unit`. What a digit takes away is chosen before it is taken, so that no branch is compiled and the doubling does
-// not wait for the choice.
+// The digits of a root after the first twelve, one a turn. The root stands in its place, with zeros for the digits to
+// come, which count less than `unit`, and is kept twice over; so is what its square leaves, divided by `unit`. What a
+// digit takes away is chosen before it is taken, so that no branch is compiled and the doubling does not wait for the
+// choice.
 fn later_digits(first: Whole, low: u64) -> Whole
     requires { ⌜ FirstDigits (first .root) (first .rest) low ⌝ }
     ensures { λ r. ⌜ LeavesRest
         (((first .root * first .root + first .rest) * 2 ^ 30 + low) * 2 ^ 52) (r .root) (r .rest) ⌝ }
 {
-    let mut down = first.rest * 0x400_0000_0000 + low * 0x1000;
-    let mut twice = first.root * 0x400_0000_0000;
+    let mut twice_rest = first.rest * 0x400_0000_0000 + low * 0x1000;
+    let mut twice_root = first.root * 0x400_0000_0000;
     let mut unit: u64 = 0x200_0000_0000;
     while unit > 1 {
         let place = unit / 2;
-        let trial = twice + place;
-        let taken = if trial <= down { trial * 2 } else { 0 };
-        twice = if trial <= down { trial + place } else { twice };
-        down = down * 2 - taken;
+        let trial = twice_root + place;
+        let taken = if trial <= twice_rest { trial * 2 } else { 0 };
+        twice_root = if trial <= twice_rest {
+            trial + place
+        } else {
+            twice_root
+        };
+        twice_rest = twice_rest * 2 - taken;
         unit = place;
     }
-    let root = twice / 2;
-    let rest = down / 2;
+    let root = twice_root / 2;
+    let rest = twice_rest / 2;
     Whole { root, rest }
 }
 

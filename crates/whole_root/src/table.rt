@@ -4,7 +4,7 @@ ghost use Prim.Native.Nat.{_*_, _≤_, _<_};
 ghost use Rattle.whole_root.specs.WholeRoot.{IsWholeRoot};
 ghost use Rattle.whole_root.specs.Table.{IsTable};
 
-// Entry i, from 256 to 1,023, is the greatest t with t * t at most 16,384 * i. The program `table_afresh` prints the same.
+// Entry i, from 256 to 1,023, is the greatest t with t * t at most 16,384 * i; `table_afresh` prints the same.
 const ROOTS: [u16; 768] = [
     2048,
     2051,
@@ -776,13 +776,14 @@ const ROOTS: [u16; 768] = [
     4093,
 ];
 
-// The table. A constant is copied to wherever it is used, so that who takes many roots makes the table once and lends it.
+// The table. A constant is copied to wherever it is used, so that who takes many roots makes it once and lends it.
 pub fn roots() -> [u16; 768]
     ensures { λ r. ⌜ IsTable r ⌝ }
 {
     ROOTS
 }
 
+// An entry as wide as the numbers that it is compared with.
 fn wide(t: u16) -> u64
     ensures { λ r. ⌜ r ≡ t ⌝ }
 {

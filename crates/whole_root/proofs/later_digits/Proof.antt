@@ -128,7 +128,7 @@ loop-again c =
     let first : tie.Joined1 Inv-loop μ-loop = second .before in
     let turn : tie.In-loop Inv-loop μ-loop = first .before in
     let k = turn .before .loop .inv in
-    let down = turn .before .loop .down in
+    let down = turn .before .loop .twice-rest in
     let more : 1 < turn .before .loop .unit = omega (arith, turn .loop-test .taken) in
     ⊎-elim
     (λ w. ⊎-elim
@@ -145,16 +145,16 @@ returns : tie.Need-returns Inv-loop μ-loop
 returns c =
     let here : tie.At-loop Inv-loop μ-loop = c .before in
     let a = here .before .before .before .args in
-    subst (λ (n : ℕ). LeavesRest n (here .loop .twice / 2) (here .loop .down / 2)) (is-whole (a .first .root) (a .first .rest) (a .low)) (finished (here .loop .inv) (c .loop-test .left))
+    subst (λ (n : ℕ). LeavesRest n (here .loop .twice-root / 2) (here .loop .twice-rest / 2)) (is-whole (a .first .root) (a .first .rest) (a .low)) (finished (here .loop .inv) (c .loop-test .left))
 
 -- what is kept, its double and the trial fit
-bound : (c : tie.In-loop Inv-loop μ-loop) → (c .before .loop .down < 2 ^ 56) × (c .before .loop .twice + c .before .loop .unit ≤ 2 ^ 54)
+bound : (c : tie.In-loop Inv-loop μ-loop) → (c .before .loop .twice-rest < 2 ^ 56) × (c .before .loop .twice-root + c .before .loop .unit ≤ 2 ^ 54)
 bound c =
     let k = c .before .loop .inv in
     (omega (arith, k .small, k .short, k .doubled), omega (arith, k .double, k .short, c .loop-test .taken))
 
-sub-down : tie.Need-sub-down Inv-loop μ-loop
-sub-down c = ⊎-elim (λ w. omega (arith, w .0, w .1)) (λ w. omega (arith, w .1)) (c .before .before .if1 .came)
+sub-twice-rest : tie.Need-sub-twice-rest Inv-loop μ-loop
+sub-twice-rest c = ⊎-elim (λ w. omega (arith, w .0, w .1)) (λ w. omega (arith, w .1)) (c .before .before .if1 .came)
 
 pub later-digits-spec : {M : Type 1} → statement M
 later-digits-spec =
@@ -171,7 +171,7 @@ later-digits-spec =
     (λ c. omega (arith, bound (c .before) .1))
     (λ c. omega (arith, bound (c .before .before) .1))
     (λ c. omega (arith, bound (c .before .before) .0))
-    sub-down
+    sub-twice-rest
     (λ c. omega (arith, c .before .before .before .loop-test .taken))
     loop-again
     returns)

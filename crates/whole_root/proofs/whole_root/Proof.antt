@@ -1,4 +1,4 @@
--- The first twelve digits are the root of the leading 24 digits of m, and the other 30 of m and 52 zeros follow. Assumes nothing.
+-- The first twelve digits are the root of m without its last 30 digits; these 30 and 52 zeros follow. Assumes nothing.
 use mathlib.Core.Path.{_≡_, subst}
 use Prim.Native.Nat.{ℕ, _+_, _-_, _*_, _/_, _%_, _^_, _≤_}
 use native.Mathlib.Omega.{arith}

@@ -5,9 +5,8 @@ use Prim.Native.Nat.{ℕ, _+_, _-_, _*_, _≤_, _<_}
 use native.Mathlib.Numerals.{add-one}
 use native.Mathlib.Omega.{arith}
 use lib.ListN.{length}
-use Rattle.whole_root.specs.WholeRoot.{IsWholeRoot}
-use Rattle.whole_root.specs.Table.{entryOf}
-use Rattle.whole_root.proofs.WholeLaws.{whole-root-is, one-root, root-below}
+use Rattle.whole_root.proofs.WholeLaws.{root-below}
+use Rattle.whole_root.proofs.TableRule.{the-entry}
 use Rattle.listing_text.specs.Text.{decimal, printed}
 use Rattle.listing_text.specs.Listing.{linesText}
 use Rattle.listing_text.specs.InnerContracts.{Written}
@@ -22,10 +21,6 @@ Inv-loop out₀ at₀ root₀ k₀ out at root k =
 
 abbrev μ-loop : tie.MeasureT-loop
 μ-loop out₀ at₀ root₀ k₀ out at root k = 768 - k
-
--- the root of 16,384·i is entry i, since a whole number has one root
-is-entry : (k r : ℕ) → k < 768 → IsWholeRoot (16384 * (256 + k)) r → r ≡ entryOf (256 + k)
-is-entry k r l i = let n = 16384 * (256 + k) in one-root n r (entryOf (256 + k)) i (whole-root-is 12 n (omega arith))
 
 module _ {old new : List ℕ} {at next : ℕ} where
   line-of : {r e : ℕ} → r ≡ e → Written old at (printed (decimal r) []) new next → Written old at (printed (decimal e) []) new next
@@ -42,7 +37,7 @@ loop-again c =
     let here : tie.At-loop Inv-loop μ-loop = entry .before .before in
     let inv = here .loop .inv in
     let k = here .loop .k in
-    let right = is-entry k (entry .root-from .result) (entry .before .loop-test .taken) (entry .root-from .ensures) in
+    let right = the-entry k (entry .root-from .result) (entry .before .loop-test .taken) (entry .root-from .ensures) in
     let stored = line-of right (line .put-alone .ensures .0) in
     (omega arith, omega (arith, inv .1, line .put-alone .ensures .1), omega arith, omega (arith, entry .root-from .ensures .low), rw (add-one k) (joined (inv .4) stored))
 

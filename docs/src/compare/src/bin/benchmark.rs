@@ -10,7 +10,8 @@ use reference::draft::Draft;
 use reference::rows::{Lengths, RowStore, LONGEST, SPARE};
 use reference::run;
 use reference::samples::timed::{
-    many_pipes, one_long_pipe, short_main, with_longest_schedules, with_one_entry, with_valve_shut,
+    many_pipes, one_long_pipe, short_main, uneven_pipe, with_longest_schedules, with_one_entry,
+    with_valve_shut,
 };
 use std::time::Instant;
 
@@ -176,6 +177,13 @@ fn plans() -> Vec<Plan> {
         ),
         // No root is taken: what the one before takes more is a root and the valve's other operations.
         Plan::new("the same, the valve shut", &with_valve_shut(&short_valve), main_steps, 101),
+        // No bounds on the pipe's waves rule a stop out, so that every section is looked at.
+        Plan::new(
+            "one pipe of 511 reaches over uneven ground, 10,000 steps",
+            &uneven_pipe(),
+            one,
+            41,
+        ),
     ]);
     plans
 }

@@ -35,7 +35,7 @@ const ENTRIES: &str = "roots about every entry of the table that starts a root";
 pub fn all() -> Vec<(&'static str, u64)> {
     let mut cases = vec![(ROOTS, ROOTS_AT_LEAST), (ABOVE, 1), (BELOW, 1), (EXACT, 1)];
     // Eight of each binade have no sign; of those drawn a part is refused.
-    cases.extend([(BINADE_ENDS, 8 * 2047), (RANGE_ENDS, 1), (ENTRIES, 6 * 768)]);
+    cases.extend([(BINADE_ENDS, 8 * 2047), (RANGE_ENDS, 1), (ENTRIES, 24 * 768)]);
     cases.extend(table::TOO_SMALL.map(|name| (name, 100)));
     cases.extend(DRAWN.map(|(name, _)| (name, DRAWS as u64)));
     cases

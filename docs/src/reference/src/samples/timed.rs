@@ -3,6 +3,8 @@
 use crate::draft::{Draft, DraftNode};
 use crate::layout::Form;
 use crate::reader::MOST_BYTES;
+use crate::rows::RowStore;
+use crate::run::{run_on, start};
 
 /// One pipe of 511 reaches from a reservoir to a valve that stays partly open.
 pub fn one_long_pipe() -> Draft {
@@ -16,6 +18,19 @@ pub fn one_long_pipe() -> Draft {
     for at in 0..512 {
         draft.section(150.0 - f64::from(at) * 0.0128, 0.477, -10.0 - 0.001 * f64::from(at));
     }
+    draft
+}
+
+/// The same over uneven ground: every floor lies a metre below the lowest head that its section has in
+/// 10,000 steps. Near the reservoir it is higher than heads elsewhere, so that no bounds on the pipe's
+/// waves rule a stop out.
+pub fn uneven_pipe() -> Draft {
+    let mut draft = one_long_pipe();
+    let mut rows = RowStore::zeros(draft.needed());
+    start(&draft.bytes(), rows.lend()).expect("the job is accepted");
+    run_on(&draft.bytes(), 0, 10_000, rows.lend()).expect("the job runs on");
+    let lowest = rows.lowest().to_vec();
+    draft.sections.iter_mut().zip(lowest).for_each(|(section, low)| section[2] = low - 1.0);
     draft
 }
 

@@ -1,6 +1,6 @@
 //! Arguments about every entry of the table that starts a root (document 02, 9/12).
 
-/// How far the root of 24 leading digits lies above the entry of the first ten.
+/// How far the root of the 23 or 24 leading digits lies above the entry of the first nine or ten.
 pub const TOO_SMALL: [&str; 5] = [
     "roots whose entry of the table is right",
     "roots whose entry of the table is one too small",
@@ -9,8 +9,8 @@ pub const TOO_SMALL: [&str; 5] = [
     "roots whose entry of the table is four too small",
 ];
 
-/// Entry i, and numbers of 24 binary digits that begin with the ten of i: the first and the last, and
-/// about every square among them.
+/// Entry i, and numbers of 23 or 24 binary digits that begin with those of i: the first and the last,
+/// and about every square among them.
 fn leading(i: u64) -> (u64, Vec<u64>) {
     let (first, last) = (i << 14, (i << 14) + 0x3fff);
     let entry = first.isqrt();
@@ -20,8 +20,8 @@ fn leading(i: u64) -> (u64, Vec<u64>) {
     (entry, [first, last].into_iter().chain(within).collect())
 }
 
-/// Patterns of numbers from 1 up to 4, each with how much too small its entry is: 24 digits, and then
-/// zeros, ones, or a one at the end.
+/// Patterns of numbers from 1 up to 4, each with how much too small its entry is: 23 or 24 digits, and
+/// then zeros, ones, or a one at the end.
 pub fn about_entries() -> impl Iterator<Item = (u64, usize)> {
     (256..1024).flat_map(|i| {
         let (entry, tops) = leading(i);
