@@ -1,5 +1,5 @@
-// The ends of one pipe in the spare, which has four numbers a pipe: the new head and flow at its start, and those at its
-// finish.
+// The ends of one pipe in the spare, which has four numbers a pipe: the new head and flow at its start, and those at
+// its finish.
 ghost use mathlib.Core.Path.{_≡_};
 ghost use Prim.Native.Nat.{_+_, _*_, _<_, _≤_};
 ghost use lib.ListN.{length};

@@ -7,7 +7,8 @@ ghost use Rattle.job.specs.Job.{sections};
 ghost use Rattle.job.specs.Format.{jobOf};
 ghost use Rattle.job.specs.Questions.{Accepted};
 ghost use Rattle.chain.specs.Chain.{isChain};
-ghost use Rattle.setting.specs.Setting.{outletHead, coefficientFor, none, coefficient, isChainWith, setOrNone, setValve};
+ghost use Rattle.setting.specs.Setting.{outletHead, coefficientFor, none, coefficient, isChainWith};
+ghost use Rattle.setting.specs.Setting.{setOrNone, setValve};
 ghost use Rattle.valve_setting.specs.Answers.{paperSetting, leaves};
 
 mod answer;
