@@ -1,0 +1,129 @@
+-- The jobs of bytes and the lists of calls of the cases at the border. Definitions only.
+use mathlib.Core.Bool.{true, false}
+use mathlib.Core.List.{List, [], _∷_, _++_, foldr}
+use Prim.Native.Nat.{ℕ, _+_, _*_}
+use lib.ListN.{length, take, replicate}
+use lib.Ieee.{nan}
+use Rattle.job.specs.JobQ.{jobQ}
+use Rattle.recurrence.specs.Run.{Call}
+use Rattle.recurrence.specs.Calls.{Row, Rows, gathered, startCall, runOnCall}
+use Rattle.recurrence.specs.Lent.{LentCall}
+use Rattle.recurrence.specs.Figures.{patched}
+use Rattle.recurrence.specs.OwnFigures.{short}
+
+-- ---- bytes
+
+-- an f64 of which only the two highest bytes are not 0
+abbrev pub f64Of : ℕ → ℕ → List ℕ
+f64Of low high = replicate 6 0 ++ low ∷ high ∷ []
+
+abbrev pub at0 : List ℕ
+at0 = f64Of 0 0
+
+abbrev pub at1 : List ℕ
+at1 = f64Of 240 63
+
+abbrev pub at2 : List ℕ
+at2 = f64Of 0 64
+
+abbrev pub at10 : List ℕ
+at10 = f64Of 36 64
+
+abbrev pub at12 : List ℕ
+at12 = f64Of 40 64
+
+abbrev pub endToEnd : List (List ℕ) → List ℕ
+endToEnd xs = foldr (λ x rest. x ++ rest) [] xs
+
+-- ---- job Q with a valve that is shut at step 1 and opens at step 2
+
+-- with other bytes changed, and with more levels of its reservoir after the first
+unfoldable pub opening : List (ℕ × ℕ) → List (List ℕ) → List ℕ
+unfolding patched
+opening changes levels =
+    patched (take 206 jobQ) ((42, 24 + 8 * length levels) ∷ (59, 1 + length levels) ∷ (85, 2) ∷ changes) ++ endToEnd levels ++ at0 ++ at1
+
+abbrev pub jobQOpening : List ℕ
+jobQOpening = opening [] []
+
+-- Floors 10, and the valve's tank at 2: at step 2 the head at the valve falls below its floor. The reservoir is at 10; at 12 from step 3 on; at 0 from
+-- step 2 on.
+abbrev pub floorsAt10 : List (ℕ × ℕ)
+floorsAt10 = (100, 0) ∷ (148, 36) ∷ (149, 64) ∷ (172, 36) ∷ (173, 64) ∷ (196, 36) ∷ (197, 64) ∷ []
+
+abbrev pub parting : List ℕ
+parting = opening floorsAt10 []
+
+abbrev pub partingLate : List ℕ
+partingLate = opening floorsAt10 (at10 ∷ at12 ∷ [])
+
+abbrev pub partingLow : List ℕ
+partingLow = opening floorsAt10 (at0 ∷ [])
+
+-- The valve's coefficient 2^400: at step 2 the argument of its root is not finite.
+abbrev pub failing : List ℕ
+failing = opening ((92, 240) ∷ (93, 88) ∷ []) []
+
+abbrev pub failingLate : List ℕ
+failingLate = opening ((92, 240) ∷ (93, 88) ∷ []) (at10 ∷ at12 ∷ [])
+
+-- Floors 10 and the reservoir at 0: at step 1 its head is below the floor. In the second job it is at 12 from step 2 on.
+abbrev pub drained : List ℕ
+drained = opening ((204, 0) ∷ (205, 0) ∷ floorsAt10) []
+
+abbrev pub drainedThenHigh : List ℕ
+drainedThenHigh = opening ((204, 0) ∷ (205, 0) ∷ floorsAt10) (at12 ∷ [])
+
+-- ---- two mains, each a pipe of one reach between two reservoirs: nodes and sections 0 and 1, nodes and sections 2 and 3
+
+-- with the levels of nodes 0 and 2; those of nodes 1 and 3 are 1
+unfoldable pub twoMains : List ℕ → List ℕ → List ℕ
+twoMains first second =
+    5 ∷ 0 ∷ 1 ∷ 0 ∷ 0 ∷ 0
+    ∷ 46 ∷ 0 ∷ 0 ∷ 0 ∷ 24 ∷ 0 ∷ 0 ∷ 0
+    ∷ 70 ∷ 0 ∷ 0 ∷ 0 ∷ 104 ∷ 0 ∷ 0 ∷ 0
+    ∷ 174 ∷ 0 ∷ 0 ∷ 0 ∷ 16 ∷ 0 ∷ 0 ∷ 0
+    ∷ 190 ∷ 0 ∷ 0 ∷ 0 ∷ 96 ∷ 0 ∷ 0 ∷ 0
+    ∷ 30 ∷ 1 ∷ 0 ∷ 0 ∷ 32 ∷ 0 ∷ 0 ∷ 0
+    ∷ 0 ∷ 1 ∷ 1 ∷ 0 ∷ at1
+    ++ 2 ∷ 3 ∷ 1 ∷ 0 ∷ at1
+    ++ endToEnd (replicate 4 (1 ∷ 1 ∷ replicate 24 0))
+    ++ replicate 16 0
+    ++ endToEnd (replicate 4 (at1 ++ at0 ++ at0))
+    ++ first ++ at1 ++ second ++ at1
+
+abbrev pub mainsLevel : List ℕ
+mainsLevel = twoMains at1 at1
+
+abbrev pub firstHigher : List ℕ
+firstHigher = twoMains at2 at1
+
+abbrev pub secondHigher : List ℕ
+secondHigher = twoMains at1 at2
+
+-- ---- lists of calls
+
+-- a step, a call that question 20 refuses, and nine steps
+abbrev pub inThree : List Call
+inThree = record { count = 1; enough = true } ∷ record { count = 9; enough = false } ∷ record { count = 9; enough = true } ∷ []
+
+-- a call that question 20 refuses, and N steps
+abbrev pub afterRefusal : ℕ → List Call
+afterRefusal N = record { count = 9; enough = false } ∷ record { count = N; enough = true } ∷ []
+
+-- what is held by a caller, lent to a run-on: NaNs past the three sections, and a spare of NaNs
+abbrev pub lentOn : Rows → Rows
+lentOn held x = take (gathered 3 3 3 3 0 x) (held x) ++ replicate 5 nan
+
+-- the rows that a run-on of one step after a start leaves
+abbrev pub atStep1 : List ℕ → Rows → Rows
+atStep1 job lent = runOnCall job 0 1 (lentOn (startCall job lent .rows)) .rows
+
+-- After a start: a call that question 20 refuses, lent sevens, and too few of them in row x; a step; a call that question 21 refuses; nine steps.
+abbrev pub fourCalls : List ℕ → Rows → Row → List LentCall
+fourCalls job lent x =
+    record { count = 9; rows = short x }
+    ∷ record { count = 1; rows = lentOn (startCall job lent .rows) }
+    ∷ record { count = 1_000_001; rows = atStep1 job lent }
+    ∷ record { count = 9; rows = atStep1 job lent }
+    ∷ []

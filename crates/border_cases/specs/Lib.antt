@@ -1,0 +1,4 @@
+pub mod Jobs
+pub mod Cases
+pub mod RowCases
+pub mod Border

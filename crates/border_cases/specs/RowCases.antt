@@ -1,0 +1,62 @@
+-- What demand 3 as a caller sees it, what ties it to the public calls, and the two laws of continued runs have to give at their border: after a start and four
+-- calls on lent rows, two of them refused, the last one stopped. Definitions only.
+use mathlib.Core.Path.{_≡_}
+use mathlib.Core.Bool.{true}
+use mathlib.Core.List.{List, [], _∷_, map}
+use mathlib.Core.Option.{some}
+use Prim.Native.Nat.{ℕ}
+use lib.ListN.{getElem?, getD, take}
+use lib.Ieee.Scale.{finite}
+use Rattle.fields.specs.Real.{zero64}
+use Rattle.wave.specs.Figures.{num}
+use Rattle.job.specs.Format.{jobOf}
+use Rattle.recurrence.specs.Scan.{parted, acceptable}
+use Rattle.recurrence.specs.Run.{stopAnswer}
+use Rattle.recurrence.specs.Calls.{Row, heads, flows, pointIn, stateIn}
+use Rattle.recurrence.specs.Lent.{LentCall, Held, Started, heldAtStart, heldBy, answersBy, carried, Chained, callOf}
+use Rattle.recurrence.specs.Figures.{lentSevens, refusal, done}
+use Rattle.recurrence.specs.OwnFigures.{sevens, _are_}
+use Rattle.border_cases.specs.Jobs.{parting, partingLate, partingLow, fourCalls}
+
+-- Rows with an entry more than is in use, and just enough; each run is lent its own, and its first call too few of another row.
+abbrev pub callsFrom : List ℕ → List LentCall
+callsFrom job = fourCalls job lentSevens heads
+
+abbrev pub otherCallsFrom : List ℕ → List LentCall
+otherCallsFrom job = fourCalls job (sevens 3 4) flows
+
+-- what a caller holds after a start and the calls
+abbrev pub held : List ℕ → Held
+held job = heldBy job lentSevens (callsFrom job)
+
+abbrev pub otherHeld : List ℕ → Held
+otherHeld job = heldBy job (sevens 3 4) (otherCallsFrom job)
+
+-- A start and the calls meet what the claims ask of them.
+pub record Met : Type 0 where
+  pub started : Started parting lentSevens
+  pub chained : Chained parting (heldAtStart parting lentSevens) (callsFrom parting)
+  pub started-late : Started partingLate (sevens 3 4)
+  pub chained-late : Chained partingLate (heldAtStart partingLate (sevens 3 4)) (otherCallsFrom partingLate)
+  pub started-low : Started partingLow (sevens 3 4)
+  pub chained-low : Chained partingLow (heldAtStart partingLow (sevens 3 4)) (otherCallsFrom partingLow)
+  pub same-late : map (callOf parting) (callsFrom parting) ≡ map (callOf partingLate) (otherCallsFrom partingLate)
+  pub same-low : map (callOf parting) (callsFrom parting) ≡ map (callOf partingLow) (otherCallsFrom partingLow)
+
+pub record RowCases : Type 0 where
+  -- k = 3: the fourth call stops at step 2 in both
+  pub stop-before-k : getElem? (answersBy partingLate (sevens 3 4) (otherCallsFrom partingLate)) 3 ≡ some (stopAnswer parted 1 2)
+  -- k = 2, d = 0: one step is done, and section 0 holds the same
+  pub at-the-node : pointIn (held parting .rows) 0 ≡ pointIn (otherHeld partingLow .rows) 0
+
+-- what ties the public calls to demand 3: answers, steps done and rows are those of the recurrence
+pub record TiedCases : Type 0 where
+  pub answered : answersBy parting lentSevens (callsFrom parting) ≡ refusal 20 ∷ done 1 ∷ refusal 21 ∷ stopAnswer parted 1 2 ∷ []
+  pub one-step : held parting .done ≡ 1
+  pub heads-left : take 3 (held parting .rows heads) are (num 10 ∷ num 10 ∷ num 14 ∷ [])
+
+-- at the first section and at the last, in each row that a caller carries; and question 22 gets a yes
+pub record ContinuedCases : Type 0 where
+  pub first-finite : (x : Row) → carried x ≡ true → finite (getD (held parting .rows x) 0 zero64) ≡ true
+  pub last-finite : (x : Row) → carried x ≡ true → finite (getD (held parting .rows x) 2 zero64) ≡ true
+  pub goes-on : acceptable (jobOf parting) (stateIn (jobOf parting) (held parting .rows)) ≡ true
