@@ -95,8 +95,8 @@ def main():
             cuts += 1
     for name, output in zip(names, after_pauses(path, jobs)):
         compare(name, "after pauses", output)
-    print("\n".join(bad) if bad else "the stored listings of %d jobs that come in pieces: one byte at a time (%d bytes), "
-          "cut within a table (%d cuts), after pauses of %g s" % (len(jobs), sum(map(len, jobs)), cuts, PAUSE))
+    print("\n".join(bad) if bad else "the stored listings of %d jobs that come in pieces: one byte at a time (%d "
+          "bytes), cut within a table (%d cuts), after pauses of %g s" % (len(jobs), sum(map(len, jobs)), cuts, PAUSE))
     return 1 if bad or not jobs else 0
 
 
