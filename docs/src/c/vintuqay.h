@@ -12,7 +12,10 @@
  *   mode for a whole program where it is linked with -ffast-math: what is less than 2^-1022 in size then
  *   counts as zero. vintuqay_default_floats() tells the mode of the thread that asks.
  * - Floating-point exceptions are not trapped. The calls raise their flags; a trap would end the program.
- * - The thread that calls has VINTUQAY_STACK_BYTES of stack left. No call takes other memory.
+ * - The thread that calls has VINTUQAY_STACK_BYTES of stack left. No call takes other memory. Measured, in
+ *   KB: vintuqay_run_on 3.6, vintuqay_set_valve 1.8, vintuqay_root 1.6, vintuqay_start 0.4, vintuqay_read
+ *   0.3, vintuqay_line 0.1; some 3 more for the first of vintuqay_run_on and vintuqay_start where memcpy
+ *   or memset is looked up late. The program surgelist takes 94.
  *
  * Calls on different slices may run in several threads at the same time: no call writes anything but
  * the slices lent to it, *coefficient and its own stack. They may lend the same `job`.
