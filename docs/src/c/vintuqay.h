@@ -9,8 +9,9 @@
  *   null.
  * - Floating-point arithmetic (SSE on x86-64) is in the default mode: rounded to nearest, subnormal
  *   numbers kept. In another mode the calls give other bits and tell nothing. gcc and clang set such a
- *   mode for a whole program where it is linked with -ffast-math: what is less than 2^-1022 in size then
- *   counts as zero. vintuqay_default_floats() tells the mode of the thread that asks.
+ *   mode for a whole program where it, or a shared library that it loads, is linked with -ffast-math:
+ *   what is less than 2^-1022 in size then counts as zero. vintuqay_default_floats() tells the mode of
+ *   the thread that asks.
  * - Floating-point exceptions are not trapped. The calls raise their flags; a trap would end the program.
  * - The thread that calls has VINTUQAY_STACK_BYTES of stack left. No call takes other memory. Measured, in
  *   KB: vintuqay_run_on 3.6, vintuqay_set_valve 1.8, vintuqay_root 1.6, vintuqay_start 0.4, vintuqay_read
