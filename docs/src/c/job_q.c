@@ -1,6 +1,7 @@
 /* Starts job Q of document 01, runs it on to step 5 one step a call, and prints its heads after each
  * step, then the listing's line of each section: once with five pairs, once with six and a table of
- * schedule counts. Then come calls that are refused, and the valve set for a discharge. */
+ * schedule counts. Then come calls that are refused, and the valve set for a discharge. Before all that
+ * it asks for the floating-point mode that the calls need. */
 #include "vintuqay.h"
 #include <stdio.h>
 #include <string.h>
@@ -148,6 +149,11 @@ static void set_valve(double level, double discharge, size_t flows) {
 }
 
 int main(void) {
+    if (!vintuqay_default_floats()) {
+        fputs("job_q: floating-point arithmetic is not in the default mode, which the calls need\n", stderr);
+        return 1;
+    }
+    puts("floating-point arithmetic is in the default mode");
     put_job_q(5);
     run_job();
     put_job_q(6);

@@ -1,23 +1,42 @@
 /* Vintuqay for programs in C: the proved calls of the static library that `rt staticlib c_interface`
  * writes to target/staticlib/libc_interface.a (x86-64 Linux).
  *
- * A slice is a pointer and a count of its elements. Slices lent to one call do not overlap; `job` is
- * only read. An empty slice may have any pointer. Nothing is kept after a call returns.
+ * A slice is a pointer and a count of its elements; `job` is only read. An empty slice may have any
+ * pointer. Nothing is kept after a call returns.
+ *
+ * What a caller owes, and no call asks:
+ * - Slices lent to one call do not overlap. The place for a coefficient lies in none of them and is not
+ *   null.
+ * - Floating-point arithmetic (SSE on x86-64) is in the default mode: rounded to nearest, subnormal
+ *   numbers kept. In another mode the calls give other bits and tell nothing. gcc and clang set such a
+ *   mode for a whole program where it, or a shared library that it loads, is linked with -ffast-math:
+ *   what is less than 2^-1022 in size then counts as zero. vintuqay_default_floats() tells the mode of
+ *   the thread that asks.
+ * - Floating-point exceptions are not trapped. The calls raise their flags; a trap would end the program.
+ * - The thread that calls has VINTUQAY_STACK_BYTES of stack left. No call takes other memory. Measured, in
+ *   KB: vintuqay_run_on 3.6, vintuqay_set_valve 1.8, vintuqay_root 1.6, vintuqay_start 0.4, vintuqay_read
+ *   0.3, vintuqay_line 0.1; some 3 more for the first of vintuqay_run_on and vintuqay_start where memcpy
+ *   or memset is looked up late. The program surgelist takes 94.
+ *
+ * Calls on different slices may run in several threads at the same time: no call writes anything but
+ * the slices lent to it, *coefficient and its own stack. They may lend the same `job`.
  */
 #ifndef VINTUQAY_H
 #define VINTUQAY_H
 
 #include <stddef.h>
 #include <stdint.h>
+#include <string.h>
 
 /* The version of these calls: the first number changes where a program would have to, the second where
  * something is added or heads come out otherwise. Since 1.1 a valve (kind 2) is an outlet into open air
  * at head b: it lets water out, and nothing back where the head of the main falls below b (B - T*b not
  * above zero; docs/MANUAL.md, 6). Since 1.2 the root is the double nearest the exact root; before, it
  * was cut down. Since 1.3 a job may have six pairs, table 6 with a 16-bit schedule count per node
- * (docs/MANUAL.md, 3); jobs of five pairs read as they did. Since 1.4 vintuqay_set_valve. */
+ * (docs/MANUAL.md, 3); jobs of five pairs read as they did. Since 1.4 vintuqay_set_valve. Since 1.5
+ * vintuqay_default_floats and VINTUQAY_STACK_BYTES. */
 #define VINTUQAY_VERSION_MAJOR 1
-#define VINTUQAY_VERSION_MINOR 4
+#define VINTUQAY_VERSION_MINOR 5
 
 #ifdef __cplusplus
 extern "C" {
@@ -30,7 +49,8 @@ enum {
     VINTUQAY_SECTIONS = 512,     /* the most sections of a job */
     VINTUQAY_STEPS = 1000000,    /* the most steps of a run */
     VINTUQAY_SPARE_PER_PIPE = 4, /* the values of the spare that a pipe takes */
-    VINTUQAY_LINE_BYTES = 72     /* the bytes that a listing's line asks for, and those of the longest line */
+    VINTUQAY_LINE_BYTES = 72,    /* the bytes that a listing's line asks for, and those of the longest line */
+    VINTUQAY_STACK_BYTES = 8192  /* more than the stack that any call was measured to take: docs/MANUAL.md, 10 */
 };
 
 /* The number of an answer: done, the question that got a no, a stop, or none. Neither a stop nor none is
@@ -87,6 +107,46 @@ enum vintuqay_answer {
 static inline unsigned vintuqay_number(uint64_t answer) { return (unsigned)(answer & 0xff); }
 static inline unsigned vintuqay_section(uint64_t answer) { return (unsigned)(answer >> 8 & 0xfff); }
 static inline uint32_t vintuqay_steps(uint64_t answer) { return (uint32_t)(answer >> 20); }
+
+static inline double vintuqay_double_of(uint64_t bits) {
+    double x;
+    memcpy(&x, &bits, sizeof x);
+    return x;
+}
+
+static inline uint64_t vintuqay_bits_of(double x) {
+    uint64_t bits;
+    memcpy(&bits, &x, sizeof bits);
+    return bits;
+}
+
+/* Whether the thread that asks has floating-point arithmetic in the default mode, which the calls need:
+ * 1 where it has; 0 where results are rounded upward, downward or toward zero, where subnormal results
+ * become zero (FTZ), where subnormal operands count as zero (DAZ), and where the caller is compiled for
+ * arithmetic of more than 64 bits (x87), by which this test could not see the mode of the calls.
+ * Operands and results are volatile and bits are compared, so that no compiler works it out beforehand.
+ */
+static inline int vintuqay_default_floats(void) {
+    volatile double x, y, z;
+    x = 1;
+    y = vintuqay_double_of(UINT64_C(0x3ca0000000000000)); /* half of the last place of 1: a tie */
+    z = x + y;
+    if (vintuqay_bits_of(z) != UINT64_C(0x3ff0000000000000)) /* rounded upward */
+        return 0;
+    y = vintuqay_double_of(UINT64_C(0x3ca0010000000000)); /* 1/4096 more than half of it */
+    z = x + y;
+    if (vintuqay_bits_of(z) != UINT64_C(0x3ff0000000000001)) /* downward, toward zero, or rounded twice */
+        return 0;
+    x = vintuqay_double_of(UINT64_C(0x0010000000000000)); /* the least normal number */
+    y = 0.5;
+    z = x * y;
+    if (vintuqay_bits_of(z) != UINT64_C(0x0008000000000000)) /* a subnormal result became zero */
+        return 0;
+    x = vintuqay_double_of(UINT64_C(1)); /* the least subnormal number */
+    y = vintuqay_double_of(UINT64_C(0x4630000000000000)); /* 2^100 */
+    z = x * y;
+    return vintuqay_bits_of(z) == UINT64_C(0x0310000000000000); /* else a subnormal operand counted as zero */
+}
 
 /* The double nearest the exact root, ties to the even last bit, as IEEE 754 has its square root;
  * subnormal arguments are included. +0 for either zero, where IEEE 754 has -0 for -0. A NaN where the
