@@ -1,3 +1,4 @@
+pub mod AsRead
 pub mod Edits
 pub mod Unlike
 pub mod Stops

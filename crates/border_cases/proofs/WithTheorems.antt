@@ -5,6 +5,7 @@ use Rattle.recurrence.proofs.InRows.{demand-3-in-rows}
 use Rattle.recurrence.proofs.GoesOn.{can-go-on, all-finite}
 use Rattle.border_cases.specs.Cases.{Claim}
 use Rattle.border_cases.specs.Border.{BorderCases}
+use Rattle.border_cases.proofs.AsRead.{as-read}
 use Rattle.border_cases.proofs.Stops.{stop-cases}
 use Rattle.border_cases.proofs.Near.{near-cases}
 use Rattle.border_cases.proofs.Apart.{apart-cases}
@@ -15,6 +16,7 @@ claim a b x k e calls = demand-3 a b (e .accepted .0) (e .accepted .1) x k (e .f
 
 pub border-cases : BorderCases
 border-cases = record {
+  as-read = as-read;
   stops = stop-cases claim;
   near = near-cases claim;
   apart = apart-cases claim;

@@ -1,10 +1,11 @@
 -- All cases at the border. Definitions only.
-use Rattle.border_cases.specs.Cases.{StopCases, NearCases, ApartCases}
+use Rattle.border_cases.specs.Cases.{AsRead, StopCases, NearCases, ApartCases}
 use Rattle.border_cases.specs.RowCases.{Met, RowCases, TiedCases, ContinuedCases}
 
 -- Each clause of what demand 3 claims (`Carried`), of what a list of calls has to meet (`Chained`), of paths (`Paths`) and of the laws of continued runs
 -- (`Continued`) is used here where it ends.
 pub record BorderCases : Type 0 where
+  pub as-read : AsRead
   pub stops : StopCases
   pub near : NearCases
   pub apart : ApartCases

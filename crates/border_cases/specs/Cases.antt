@@ -1,11 +1,13 @@
 -- What demand 3 has to give at its border, each case for two jobs of bytes. Definitions only.
 -- Much of it could be computed instead. The proofs take it from the claim alone, so that a claim said more weakly would not give it.
 use mathlib.Core.Path.{_≡_}
-use mathlib.Core.List.{List}
+use mathlib.Core.List.{List, [], _∷_}
 use mathlib.Core.Option.{some}
 use Prim.Native.Nat.{ℕ, _≤_, _<_}
 use lib.ListN.{getElem?}
-use Rattle.job.specs.Job.{laid}
+use lib.Ieee.{Float}
+use Rattle.wave.specs.Figures.{num}
+use Rattle.job.specs.Job.{laid, nodeAt}
 use Rattle.job.specs.Format.{jobOf}
 use Rattle.job.specs.Questions.{Accepted}
 use Rattle.job.specs.JobQ.{jobQ}
@@ -15,7 +17,23 @@ use Rattle.recurrence.specs.Run.{Call, stopAnswer, played, answers, stepsDone}
 use Rattle.recurrence.specs.Paths.{EndAt, NoPath}
 use Rattle.recurrence.specs.Demand.{AlikeBut, AlikeBefore, Carried, seenBy}
 use Rattle.recurrence.specs.Figures.{jobQRising}
-use Rattle.border_cases.specs.Jobs.{jobQOpening, parting, partingLate, partingLow, failing, failingLate, drained, mainsLevel, firstHigher, secondHigher, inThree, afterRefusal}
+use Rattle.recurrence.specs.OwnFigures.{_are_}
+use Rattle.border_cases.specs.Jobs.{jobQOpening, parting, partingLate, partingLow, failing, failingLate, drained, drainedThenHigh, mainsLevel, firstHigher, secondHigher, inThree, afterRefusal}
+
+-- ---- the jobs as they are read: levels of a reservoir, openings of a valve
+
+abbrev pub schedule : List ℕ → ℕ → List Float
+schedule job node = nodeAt (jobOf job) node .schedule
+
+pub record AsRead : Type 0 where
+  pub opening : schedule jobQOpening 1 are (num 0 ∷ num 1 ∷ [])
+  pub late : schedule partingLate 0 are (num 10 ∷ num 10 ∷ num 12 ∷ [])
+  pub low : schedule partingLow 0 are (num 10 ∷ num 0 ∷ [])
+  pub failing-late : schedule failingLate 0 are (num 10 ∷ num 10 ∷ num 12 ∷ [])
+  pub drained-first : schedule drained 0 are (num 0 ∷ [])
+  pub drained-then-high : schedule drainedThenHigh 0 are (num 0 ∷ num 12 ∷ [])
+  pub first-higher : schedule firstHigher 0 are (num 2 ∷ [])
+  pub second-higher : schedule secondHigher 2 are (num 2 ∷ [])
 
 -- ---- demand 3, as the cases take it
 

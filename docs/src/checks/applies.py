@@ -1,15 +1,17 @@
 #!/usr/bin/env python3
-"""applies.py: whether each edit still applies: the must-fail edits of the crates, and the wrong programs beside this
-file, which wrong_programs.py tries.
+"""applies.py: whether each edit still applies: the must-fail edits of the crates, and beside this file the wrong
+programs, which wrong_programs.py tries, and the claims said more weakly, which weaker.py tries.
 
 `rt` finds an edit whose text is gone only after the crates are proved; this takes a second. Each 'old:' text must
 stand exactly once in the file that the line 'file:' before it names, after the replacements before it are made.
 """
 import pathlib
+import shutil
 import sys
 
 TOP = pathlib.Path(__file__).resolve().parents[3]
 WRONG_PROGRAMS = pathlib.Path(__file__).resolve().parent / "wrong-programs"
+WEAKER = pathlib.Path(__file__).resolve().parent / "weaker"
 
 
 def changed(edit, folder):
@@ -32,11 +34,29 @@ def changed(edit, folder):
     return texts, None if texts else "it changes nothing"
 
 
+def copied(edit, copy):
+    """Makes a copy of the crates, with what is proved of them, in which an edit of the repository is made; answers
+    what is wrong with the edit, if anything."""
+    texts, why = changed(edit, TOP)
+    if why:
+        return why
+    shutil.copytree(TOP / "crates", copy / "crates", ignore=shutil.ignore_patterns("must-fail"))
+    shutil.copy(TOP / "crates.txt", copy)
+    for part in ("rlib", "stamp"):
+        shutil.copytree(TOP / "target" / part, copy / "target" / part)
+    for path, text in texts.items():
+        (copy / path).write_text(text)
+    return None
+
+
 def main():
     edits = [(e, e.parents[1]) for e in sorted((TOP / "crates").glob("*/must-fail/*.edit"))]
     programs = [(e, TOP) for e in sorted(WRONG_PROGRAMS.glob("*.edit"))]
-    bad = ["%s: %s" % (e.relative_to(TOP), why) for e, folder in edits + programs if (why := changed(e, folder)[1])]
-    print("\n".join(bad) if bad else "they apply: must-fail edits %d, wrong programs %d" % (len(edits), len(programs)))
+    claims = [(e, TOP) for e in sorted(WEAKER.glob("*.edit"))]
+    every = edits + programs + claims
+    bad = ["%s: %s" % (e.relative_to(TOP), why) for e, folder in every if (why := changed(e, folder)[1])]
+    counts = "must-fail edits %d, wrong programs %d, weaker claims %d" % (len(edits), len(programs), len(claims))
+    print("\n".join(bad) if bad else "they apply: " + counts)
     return 1 if bad else 0
 
 

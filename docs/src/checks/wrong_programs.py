@@ -5,13 +5,12 @@ No contract speaks of what a program reads, so the prover takes such a program: 
 shows that it does. Run after `rt check` or `rt ci` from anywhere: the copies take the proved libraries of target/.
 """
 import pathlib
-import shutil
 import subprocess
 import sys
 import tempfile
 
 sys.dont_write_bytecode = True  # no folder of compiled Python beside the scripts
-from applies import TOP, WRONG_PROGRAMS, changed  # noqa: E402
+from applies import WRONG_PROGRAMS, copied  # noqa: E402
 
 PIECES = pathlib.Path(__file__).resolve().parent / "pieces.py"
 REFUSED = ": another listing, which ends"  # of pieces.py, so that a failure of its own is none
@@ -19,15 +18,9 @@ REFUSED = ": another listing, which ends"  # of pieces.py, so that a failure of 
 
 def tried(edit, copy):
     """What is wrong with the trial of an edit in a copy of the repository, if anything; else what pieces.py said."""
-    texts, why = changed(edit, TOP)
+    why = copied(edit, copy)
     if why:
         return why, None
-    shutil.copytree(TOP / "crates", copy / "crates")
-    shutil.copy(TOP / "crates.txt", copy)
-    for part in ("rlib", "stamp"):
-        shutil.copytree(TOP / "target" / part, copy / "target" / part)
-    for path, text in texts.items():
-        (copy / path).write_text(text)
     proved = subprocess.run(["rt", "check", "surgelist"], cwd=copy, capture_output=True, text=True)
     if proved.returncode != 0 or "rt: surgelist proved (unchanged" in proved.stdout:
         return "rt check does not prove it anew:\n" + proved.stdout[-2000:] + proved.stderr[-2000:], None
