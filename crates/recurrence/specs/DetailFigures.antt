@@ -4,15 +4,15 @@ use mathlib.Core.Path.{_≡_}
 use mathlib.Core.Bool.{true, false}
 use mathlib.Core.List.{List, [], _∷_}
 use Prim.Native.Nat.{ℕ, suc}
-use lib.Ieee.{Float, neg, binary64, toBits}
+use lib.Ieee.{neg, binary64, toBits}
 use Rattle.fields.specs.Real.{infinity64}
 use Rattle.wave.specs.Figures.{num, power}
 use Rattle.wave.specs.declared.Sums.{Sums}
 use Rattle.job.specs.Job.{Job, Pipe, junction, reservoir, ScheduledNode, Initial, Laid, laid, scheduled}
-use Rattle.recurrence.specs.State.{Point, State, pointAt, startPoint, startState}
+use Rattle.recurrence.specs.State.{Point, pointAt, startPoint, startState}
 use Rattle.recurrence.specs.Step.{AlongPipes, alongPipes, nodesWith, cmBefore, sumsAt, headAt, updated, newPoint, advanced}
-use Rattle.recurrence.specs.Scan.{Fault, parted, fault, stopped, scan}
-use Rattle.recurrence.specs.Run.{Answer, answerOf, refused, onward, withinLimit}
+use Rattle.recurrence.specs.Scan.{parted, fault, stopped, scan}
+use Rattle.recurrence.specs.Run.{answerOf, refused, onward, withinLimit}
 use Rattle.recurrence.specs.Calls.{heads}
 use Rattle.recurrence.specs.OwnFigures.{pipe, node, initially, after}
 
