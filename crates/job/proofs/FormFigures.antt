@@ -1,15 +1,17 @@
 -- Jobs of every form, by computation on their bytes: what they are read into, and which are refused. Assumes nothing.
 use mathlib.Core.Path.{_≡_, refl}
+use mathlib.Core.Bool.{true, false}
 use mathlib.Core.List.{List, [], _∷_, _++_}
 use Prim.Native.Nat.{ℕ}
-use lib.ListN.{set, take}
+use lib.ListN.{set, take, drop}
 use lib.Ieee.{Float, binary64, ofBits}
 use Rattle.fields.specs.Real.{one64}
 use Rattle.job.specs.Job.{scheduled}
 use Rattle.job.specs.Format.{nodeTable, countTable, scheduleCount, jobOf}
 use Rattle.job.specs.JobQ.{jobQ}
+use Rattle.job.specs.OwnJobs.{jobOfAllKinds}
 use Rattle.job.specs.SixPairs.{jobQEmptyCounts, jobQLongCounts, slowClosure}
-use Rattle.job.specs.Questions.{refusal, Accepted}
+use Rattle.job.specs.Questions.{figureFits, nodesMet, refusal, Accepted}
 use Rattle.job.proofs.AllDefinitions.{opened}
 
 abbrev half : Float
@@ -72,3 +74,30 @@ pub order-is-kept :
     × (refusal (set (set jobQLongCounts 224 0) 225 1) ≡ 15)
 unfolding opened
 order-is-kept = (refl, refl, refl, refl)
+
+-- Question 4 of job Q: 1,000,000 steps, 0x0f4240, go on to question 7, which 514 reaches fail; one more does not.
+pub steps-are-judged :
+    (refusal (set (set (set (set jobQ 2 64) 3 66) 4 15) 49 2) ≡ 7) × (refusal (set (set (set (set jobQ 2 65) 3 66) 4 15) 49 2) ≡ 4)
+unfolding opened
+steps-are-judged = (refl, refl)
+
+-- Question 11: a valve's a of -2; a pump's a of -10, and its b of -1.5, which is asked of the pump's record first, by itself.
+abbrev pumpOf : List ℕ → List ℕ
+pumpOf job = take 26 (drop 122 job)
+
+pub figures-are-judged :
+    (figureFits (pumpOf jobOfAllKinds) 0 ≡ true) × (figureFits (pumpOf (set jobOfAllKinds 139 191)) 0 ≡ false)
+    × (refusal (set jobQ 93 192) ≡ 11) × (refusal (set jobOfAllKinds 131 192) ≡ 11) × (refusal (set jobOfAllKinds 139 191) ≡ 11)
+unfolding opened
+figures-are-judged = (refl, refl, refl, refl, refl)
+
+-- Question 12: the second of two pipes, from node 2 to 3, made to begin at node 0, so that node 2 has no end, or to end at node 1, so that the last
+-- node has none; asked of the pipes' table first, by itself.
+abbrev pipesOf : List ℕ → List ℕ
+pipesOf job = take 24 (drop 46 job)
+
+pub ends-are-judged :
+    (nodesMet (pipesOf jobOfAllKinds) 4 ≡ true) × (nodesMet (pipesOf (set jobOfAllKinds 58 0)) 4 ≡ false) × (nodesMet (pipesOf (set jobOfAllKinds 59 1)) 4 ≡ false)
+    × (refusal (set jobOfAllKinds 58 0) ≡ 12) × (refusal (set jobOfAllKinds 59 1) ≡ 12)
+unfolding opened
+ends-are-judged = (refl, refl, refl, refl, refl)

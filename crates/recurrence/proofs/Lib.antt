@@ -1,4 +1,5 @@
 pub mod AllDefinitions
+pub mod DetailFigures
 pub mod EachRow
 pub mod Figures
 pub mod LaidPipes

@@ -10,4 +10,5 @@ pub mod Lent
 pub mod Continued
 pub mod Figures
 pub mod OwnFigures
+pub mod DetailFigures
 pub mod Sharp

@@ -4,7 +4,8 @@
 A claim that is said more weakly is true as well, so the crate that states it proves it, and a must-fail edit of that
 crate shows nothing. Each file of weaker/ is such an edit of `recurrence`, with what its proofs need for it. Tried in
 a copy: `recurrence` must still be proved, and `border_cases`, which uses each claim where it ends, must not be; its
-first error must stand in the file that the edit names after 'refused by:'. With labels it tries those and prints
+first error must stand in the file that the edit names after 'refused by:', and have no word of one that shows
+nothing or can't be read. With labels it tries those and prints
 each first error. Run after `rt check` or `rt ci` from anywhere.
 """
 import concurrent.futures
@@ -16,7 +17,7 @@ import tempfile
 
 sys.dont_write_bytecode = True  # no folder of compiled Python beside the scripts
 from applies import WEAKER, copied  # noqa: E402
-from edits import first_error  # noqa: E402
+from edits import faults, first_error  # noqa: E402
 
 CLAIMS, USES = "recurrence", "border_cases"
 
@@ -45,7 +46,7 @@ def tried(edit):
             return False, "nothing refuses it"
         if "crates/%s/proofs/%s:" % (USES, says[1]) not in error:
             return False, "refused elsewhere than in %s: %s" % (says[1], error)
-        return True, error
+        return not any(faults(error)), "; ".join([*faults(error), error])
 
 
 def main():

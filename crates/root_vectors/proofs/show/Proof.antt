@@ -3,11 +3,11 @@ use mathlib.Core.Path.{sym, ap, _∙_, subst}
 use mathlib.Core.Bool.{Bool, not}
 use lib.Dec.{T}
 use lib.Ieee.{binary64}
-use lib.Ieee.Bits.{nanBits-above, ofBits-fits}
+use lib.Ieee.Bits.{nanBits-above}
 use borrow.Author.Needs.{needs}
 use borrow.Author.Tests.{le-ltb}
 use Rattle.root.specs.Answer.{paperRoot}
-use Rattle.root.proofs.AnswerLaws.{answer-is-root, root-number}
+use Rattle.root.proofs.AnswerLaws.{root-number}
 use Rattle.root_vectors.proofs.show.Statement.{statement}
 use Rattle.root_vectors.proofs.show.Tie as tie
 
@@ -17,7 +17,7 @@ float-from-bits-root c =
 
 float-to-bits-print-hex : tie.Need-float-to-bits-print-hex
 float-to-bits-print-hex c =
-    root-number _ _ (answer-is-root _ _ (ofBits-fits binary64 (c .before .before .before .before .before .args .b)) (sym (ap paperRoot (c .before .answer .given .1)) ∙ c .before .before .before .root .ensures))
+    root-number _ _ (c .before .before .before .root .ensures .1 _ (ap paperRoot (c .before .answer .given .1)))
 
 pub show-spec : {M : Type 1} → statement M
 show-spec =

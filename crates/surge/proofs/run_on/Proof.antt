@@ -55,10 +55,12 @@ acceptable-requires c κs =
     let long = enough-each _ _ (o .enough) in
     ((o .accepted, o .count), rw (o .count) (long heads, long flows, long highest, long lowest))
 
+-- the branch is searched for among the places before the return: where the call has written by then, the row that differs is the error
 returns : tie.Need-returns
 returns c =
-    let limit = asked-21 (c .before) in
-    run-beyond _ _ (first-yes (yes-20 limit)) _ _ (is-no (limit .within-limit .ensures) (c .if1 .taken))
+    let beyond : tie.Then1 = search needs in
+    let limit = asked-21 (beyond .before) in
+    run-beyond _ _ (first-yes (yes-20 limit)) _ _ (is-no (limit .within-limit .ensures) (beyond .if1 .taken))
 
 returns-2 : tie.Need-returns-2
 returns-2 c =

@@ -34,13 +34,6 @@ check-requires c κs =
     let r = start e .pre .1 in
     (rows-lent r, omega (arith, spare-long r, e .write-ends .kept .1 .1 .1 .1 .1 .1 .0))
 
-returns : tie.Need-returns
-returns c =
-    let found : tie.After-check = c .before .before in
-    let e = ends found in
-    one-stops _ _ _ (start e .pre .1) _ (values e .values-at .ensures) _ (found .check .ensures _ (e .write-ends .ensures .0)) _ (e .write-ends .ensures .1)
-    (sym (c .before .stops .ensures) ∙ c .if1 .taken)
-
 commit-requires : tie.Need-commit-requires
 commit-requires c κs =
     let sound : tie.Else1 = c .before .before .before .before .before in
@@ -57,6 +50,13 @@ returns-2 c =
     let e = ends found in
     one-done _ _ _ (start e .pre .1) _ (values e .values-at .ensures) _ (found .check .ensures _ (e .write-ends .ensures .0)) _ (e .write-ends .ensures .1)
     (done .commit .ensures _ (e .write-ends .ensures .0)) (sym (sound .before .stops .ensures) ∙ sound .if1 .left)
+
+returns : tie.Need-returns
+returns c =
+    let found : tie.After-check = c .before .before in
+    let e = ends found in
+    one-stops _ _ _ (start e .pre .1) _ (values e .values-at .ensures) _ (found .check .ensures _ (e .write-ends .ensures .0)) _ (e .write-ends .ensures .1)
+    (sym (c .before .stops .ensures) ∙ c .if1 .taken)
 
 pub one-step-spec : {M : Type 1} → statement M
 one-step-spec =
