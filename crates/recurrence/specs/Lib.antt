@@ -1,3 +1,4 @@
+pub mod DetailFigures
 pub mod State
 pub mod Step
 pub mod Scan
@@ -10,5 +11,4 @@ pub mod Lent
 pub mod Continued
 pub mod Figures
 pub mod OwnFigures
-pub mod DetailFigures
 pub mod Sharp
