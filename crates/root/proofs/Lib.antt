@@ -1,3 +1,4 @@
+pub mod AnswerFigures
 pub mod NearestWhole
 pub mod Powers
 pub mod Patterns

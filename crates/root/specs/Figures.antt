@@ -20,12 +20,15 @@ pub record P10 : Type 0 where
   pub of-least : rootOf (fin false 1 (negsuc 1073)) ≡ fin false 1 (negsuc 536)
   pub of-2 : toBits binary64 (rootOf (fin false 1 (pos 1))) ≡ 0x3ff6_a09e_667f_3bcd
 
+-- Subnormal arguments whose roots are rounded up, worked out apart from the definitions, in whole numbers.
+pub record Subnormals : Type 0 where
+  pub of-next-to-least : rootBits 2 ≡ 0x1e66_a09e_667f_3bcd
+  pub of-greatest-subnormal : rootBits 0x000f_ffff_ffff_ffff ≡ 0x1fff_ffff_ffff_ffff
+
 -- Our own, worked out apart from the definitions, in whole numbers: roots that are rounded up, and roots that are not, some of them just below the middle.
 pub record Rounding : Type 0 where
   pub of-5 : rootBits 0x4014_0000_0000_0000 ≡ 0x4001_e377_9b97_f4a8
   pub of-3 : rootBits 0x4008_0000_0000_0000 ≡ 0x3ffb_b67a_e858_4caa
-  pub of-next-to-least : rootBits 2 ≡ 0x1e66_a09e_667f_3bcd
-  pub of-greatest-subnormal : rootBits 0x000f_ffff_ffff_ffff ≡ 0x1fff_ffff_ffff_ffff
   pub of-next-to-greatest : rootBits 0x7fef_ffff_ffff_fffe ≡ 0x5fef_ffff_ffff_ffff
   -- the square of the root's digits leaves just those digits: half up would end in 1
   pub of-next-to-one : rootBits 0x3ff0_0000_0000_0001 ≡ 0x3ff0_0000_0000_0000

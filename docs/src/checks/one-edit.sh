@@ -1,7 +1,7 @@
 #!/usr/bin/env bash
 # one-edit.sh CRATE [LABEL..]: tries the must-fail edits of one crate, or those named, and prints the first error of
-# each. `rt must-fail CRATE` tries those of every crate below it too. It works from any folder, and leaves the logs where
-# `rt must-fail` leaves them. The crates below are proved first where they are not; the crate itself must be proved.
+# each. `rt must-fail CRATE` tries those of every crate below it too. It works from any folder, and leaves the logs
+# where `rt must-fail` leaves them. The crate and those below it are proved first where they are not.
 set -euo pipefail
 top=$(cd "$(dirname "$0")/../../.." && pwd -P)
 
@@ -19,7 +19,9 @@ if [ $# -eq 0 ]; then
   for edit in "$edits"/*.edit; do set -- "$@" "$(basename "$edit" .edit)"; done
 fi
 for label; do
-  [ -f "$edits/$label.edit" ] || { echo "one-edit.sh: $crate has no edit $label; it has:" $(basename -s .edit "$edits"/*.edit) >&2; exit 2; }
+  [ -f "$edits/$label.edit" ] && continue
+  echo "one-edit.sh: $crate has no edit $label; it has:" $(basename -s .edit "$edits"/*.edit) >&2
+  exit 2
 done
 
 # A copy of the crates in which no other edit stands; what was proved, and the logs, stay in the repository's target/.
