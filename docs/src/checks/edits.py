@@ -28,9 +28,9 @@ SHOWS_NOTHING = (
 NOT_READABLE = (
     ("a bound of steps", r"took more than \d+ steps"),
     ("it is cut off", r"\[cut: |…\[\+\d+ bytes\]\s*$"),
-    ("no difference is told", r"bytes of the two types are identical|identical apart from the names"),
+    ("no difference is told", r"bytes of the two \w+ are identical|identical apart from the names"),
 )
-DIFFERENCE = r"computed as far as they go, the two (?:types|sides) (?:are `|(?:first differ|differ only) where one has)"
+DIFFERENCE = r"computed as far as they go, the two \w+ (?:are `|(?:first differ|differ only) where one has)"
 
 
 def first_error(log):
