@@ -13,7 +13,7 @@ use Rattle.recurrence.specs.Run.{stepsDone}
 use Rattle.recurrence.specs.Paths.{EndAt, startsAt, finishesAt, Beside, down, up, PathTo, begins, along, across, NoPath}
 use Rattle.recurrence.proofs.AllDefinitions.{opened}
 use Rattle.border_cases.specs.Jobs.{twoMains, mainsLevel, firstHigher, secondHigher, inThree}
-use Rattle.border_cases.specs.Cases.{Edited, Claim, ApartCases}
+use Rattle.border_cases.specs.Cases.{Edited, Claim, SameAt, ApartCases}
 use Rattle.border_cases.proofs.Edits.{rescheduled, edited}
 use Rattle.border_cases.proofs.Unlike.{pattern, unlike}
 
@@ -93,13 +93,16 @@ ten-done : (stepsDone (jobOf mainsLevel) inThree ≡ 10) × (stepsDone (jobOf fi
 unfolding opened twoMains
 ten-done = (refl, refl)
 
-pub apart-cases : Claim → ApartCases
+edited-unlike : ¬ SameAt mainsLevel firstHigher inThree 0
 unfolding opened twoMains pattern
+edited-unlike = unlike (λ p. p .head) mainsLevel firstHigher inThree 0 (λ e. omega (arith, e))
+
+pub apart-cases : Claim → ApartCases
 apart-cases claim = record {
   no-path-from-0 = unjoined-second;
   no-path-from-2 = unjoined-first;
   second-main = λ calls d s h l. claim mainsLevel firstHigher 0 1 first-edited calls .apart s d (omega (arith, four-sections)) (unjoined-second s h);
   first-main = λ calls d s h. claim mainsLevel secondHigher 2 1 second-edited calls .apart s d (omega (arith, four-sections)) (unjoined-first s h);
   both-done = ten-done;
-  edited-main = unlike (λ p. p .head) mainsLevel firstHigher inThree 0 (λ e. omega (arith, e));
+  edited-main = edited-unlike;
 }

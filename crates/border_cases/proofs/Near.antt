@@ -15,7 +15,7 @@ use Rattle.recurrence.specs.Figures.{jobQRising}
 use Rattle.recurrence.proofs.AllDefinitions.{opened}
 use Rattle.recurrence.proofs.Sharp.{by-levels, OnePipe, sharp-across}
 use Rattle.border_cases.specs.Jobs.{opening, jobQOpening, afterRefusal}
-use Rattle.border_cases.specs.Cases.{Edited, Claim, NearCases}
+use Rattle.border_cases.specs.Cases.{Edited, Claim, SameAt, NearCases}
 use Rattle.border_cases.proofs.Edits.{rescheduled, edited}
 use Rattle.border_cases.proofs.Unlike.{pattern, unlike}
 
@@ -83,19 +83,33 @@ opening-3 : BothDo jobQOpening 3
 unfolding opened opening BothDo
 opening-3 = (refl, refl)
 
+-- ---- one step further
+
+unlike-at-the-node : ¬ SameAt jobQ jobQRising (afterRefusal 2) 0
+unfolding opened pattern
+unlike-at-the-node = unlike (λ p. p .head) jobQ jobQRising (afterRefusal 2) 0 (λ e. omega (arith, e))
+
+unlike-down : ¬ SameAt jobQ jobQRising (afterRefusal 4) 2
+unfolding opened pattern
+unlike-down = unlike (λ p. p .head) jobQ jobQRising (afterRefusal 4) 2 (λ e. omega (arith, e))
+
+unlike-up : ¬ SameAt jobQ jobQOpening (afterRefusal 4) 0
+unfolding opened opening pattern
+unlike-up = unlike (λ p. p .flow) jobQ jobQOpening (afterRefusal 4) 0 (λ e. omega (arith, e))
+
 pub near-cases : Claim → NearCases
-unfolding opened opening BothDo pattern
+unfolding BothDo
 near-cases claim = record {
   at-the-node =
       claim jobQ jobQRising 0 2 rising-edited (afterRefusal 1) .near 0 0 (rising-1 .0 ∙ sym (rising-1 .1)) (omega (arith, three-sections)) at-the-reservoir
       (omega (arith, rising-1 .0));
-  at-the-node-no-longer = unlike (λ p. p .head) jobQ jobQRising (afterRefusal 2) 0 (λ e. omega (arith, e));
+  at-the-node-no-longer = unlike-at-the-node;
   down-the-pipe =
       claim jobQ jobQRising 0 2 rising-edited (afterRefusal 3) .near 2 2 (rising-3 .0 ∙ sym (rising-3 .1)) (omega (arith, three-sections))
       (sharp-across .off) (omega (arith, rising-3 .0));
-  down-the-pipe-no-longer = unlike (λ p. p .head) jobQ jobQRising (afterRefusal 4) 2 (λ e. omega (arith, e));
+  down-the-pipe-no-longer = unlike-down;
   up-the-pipe =
       claim jobQ jobQOpening 1 2 opening-edited (afterRefusal 3) .near 2 0 (opening-3 .0 ∙ sym (opening-3 .1)) (omega (arith, three-sections))
       up-from-the-valve (omega (arith, opening-3 .0));
-  up-the-pipe-no-longer = unlike (λ p. p .flow) jobQ jobQOpening (afterRefusal 4) 0 (λ e. omega (arith, e));
+  up-the-pipe-no-longer = unlike-up;
 }
