@@ -23,18 +23,19 @@ module _ (job : List ℕ) (l : Laid) (spare : List Float) (at : ℕ) (heads flow
   abbrev new : ℕ → HeadFlow
   new = newBySpare job l spare at heads flows
 
-  -- the four rows, after the inner sections, after the start and after the finish
+  -- the four rows, after the inner sections, after the start and after the finish; where the finish was read in the spare is asked last
   pub whole-pipe :
-      (highest lowest : List Float) {heads₁ flows₁ highest₁ lowest₁ heads₂ flows₂ highest₂ lowest₂ heads₃ flows₃ highest₃ lowest₃ : List Float} → 1 ≤ l .pipe .reaches
+      (highest lowest : List Float) {heads₁ flows₁ highest₁ lowest₁ heads₂ flows₂ highest₂ lowest₂ heads₃ flows₃ highest₃ lowest₃ : List Float} {to : ℕ} → 1 ≤ l .pipe .reaches
       → SteppedRows (between (alongRows job heads flows) l) (l .firstSection + 1) (l .pipe .reaches - 1) heads flows highest lowest heads₁ flows₁ highest₁ lowest₁
       → SteppedRows (λ (k : ℕ). endIn spare at) (l .firstSection) 1 heads₁ flows₁ highest₁ lowest₁ heads₂ flows₂ highest₂ lowest₂
-      → SteppedRows (λ (k : ℕ). endIn spare (at + 2)) (l .firstSection + l .pipe .reaches) 1 heads₂ flows₂ highest₂ lowest₂ heads₃ flows₃ highest₃ lowest₃
+      → SteppedRows (λ (k : ℕ). endIn spare to) (l .firstSection + l .pipe .reaches) 1 heads₂ flows₂ highest₂ lowest₂ heads₃ flows₃ highest₃ lowest₃
+      → to ≡ at + 2
       → SteppedRows new (l .firstSection) (l .pipe .reaches + 1) heads flows highest lowest heads₃ flows₃ highest₃ lowest₃
-  whole-pipe highest lowest h inside start finish =
+  whole-pipe highest lowest h inside start finish there =
       let n = l .pipe .reaches in
       let m : suc (n - 1) ≡ n = omega arith in
       let most = rw m at (stepped-above _ new (l .firstSection) (n - 1) {highest = highest} {lowest = lowest} (start-new job l spare at heads flows) (λ i b. inner-new job l spare at heads flows i (omega arith)) inside start) in
-      stepped-done (stepped-more most (λ (k : ℕ). endIn spare (at + 2)) 1 refl (λ j b. finish-new job l spare at heads flows h ∙ ap new (let e : n ≡ n + j = omega arith in e)) finish) (n + 1) refl
+      stepped-done (stepped-more most (λ (k : ℕ). endIn spare (at + 2)) 1 refl (λ j b. finish-new job l spare at heads flows h ∙ ap new (let e : n ≡ n + j = omega arith in e)) (rw there at finish)) (n + 1) refl
 
 -- ---- what is not overwritten yet
 
@@ -54,13 +55,14 @@ module _ (job : List ℕ) (heads flows nowHeads nowFlows : List Float) (l : Laid
 -- ---- pipe after pipe
 
 module _ (job : List ℕ) (v : ℕ → Float) (heads flows spare : List Float) (ends : EndsIn job v heads flows spare) (p : ℕ) (l : Laid) (is : LaidAt job p l) where
-  -- the four rows, up to this pipe and then over it; heads and flows from this pipe on are the old ones
+  -- the four rows, up to this pipe and then over it; heads and flows from this pipe on are the old ones; where its ends were read is asked last
   pub pipe-more :
-      {highest lowest heads₁ flows₁ highest₁ lowest₁ heads₂ flows₂ highest₂ lowest₂ : List Float} {first : ℕ} → l .firstSection ≡ first
+      {highest lowest heads₁ flows₁ highest₁ lowest₁ heads₂ flows₂ highest₂ lowest₂ : List Float} {first at : ℕ} → l .firstSection ≡ first
       → SteppedTo (newSection job v heads flows) 0 first heads flows highest lowest heads₁ flows₁ highest₁ lowest₁
-      → SteppedRows (newBySpare job l spare (p * 4) heads₁ flows₁) (l .firstSection) (l .pipe .reaches + 1) heads₁ flows₁ highest₁ lowest₁ heads₂ flows₂ highest₂ lowest₂
+      → SteppedRows (newBySpare job l spare at heads₁ flows₁) (l .firstSection) (l .pipe .reaches + 1) heads₁ flows₁ highest₁ lowest₁ heads₂ flows₂ highest₂ lowest₂
+      → at ≡ p * 4
       → SteppedTo (newSection job v heads flows) 0 (first + l .pipe .reaches + 1) heads flows highest lowest heads₂ flows₂ highest₂ lowest₂
-  pipe-more {heads₁ = heads₁} {flows₁} {first = first} e u w =
+  pipe-more {heads₁ = heads₁} {flows₁} {first = first} e u w there =
       let c : first + (l .pipe .reaches + 1) ≡ first + l .pipe .reaches + 1 = omega arith in
       rw c at
       (stepped-more u (newBySpare job l spare (p * 4) heads₁ flows₁) (l .pipe .reaches + 1) (omega arith)
@@ -68,4 +70,4 @@ module _ (job : List ℕ) (v : ℕ → Float) (heads flows spare : List Float) (
       same-new job heads flows heads₁ flows₁ l (λ s k. heads-kept u s (omega arith)) (λ s k. flows-kept u s (omega arith)) spare (p * 4) i
       ∙ by-spare job v heads flows spare ends p l is i (omega arith)
       ∙ ap (λ (k : ℕ). newSection job v heads flows (k + i)) e)
-      w)
+      (rw there at w))

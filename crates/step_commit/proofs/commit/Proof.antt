@@ -89,7 +89,7 @@ loop-again c =
       (kept .0 ∙ inv .2 .0, kept .1 .0 ∙ inv .2 .1, kept .1 .1 .0 ∙ inv .2 .2, kept .1 .1 .1 .0 ∙ inv .2 .3),
       λ v e.
           pipe-more (now (args .job)) v (now (args .heads)) (now (args .flows)) (now (args .spare)) e _ (laidOf (read .pipe-at .result)) (read .pipe-at .ensures)
-          (next read .first-is) (inv .3 v e) (done .commit-pipe .ensures),
+          (next read .first-is) (inv .3 v e) (done .commit-pipe .ensures) refl,
     )
 
 returns : tie.Need-returns Inv-loop μ-loop

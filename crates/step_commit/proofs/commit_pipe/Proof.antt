@@ -1,5 +1,6 @@
 -- `step_commit::commit_pipe` meets its contract: the inner sections, then the start and then the finish out of the spare are the whole pipe. Assumes
 -- nothing.
+use mathlib.Core.Path.{refl}
 use native.Mathlib.Omega.{arith}
 use denote.Ref.{now}
 use borrow.Author.Needs.{needs}
@@ -74,6 +75,7 @@ returns c =
     (inner .commit-inner .ensures)
     (begun .commit-end .ensures)
     (ended .commit-end2 .ensures)
+    refl
 
 pub commit-pipe-spec : {M : Type 1} → statement M
 commit-pipe-spec =
