@@ -7,7 +7,8 @@ use Rattle.call_questions.proofs.enough.Tie as tie
 returns : tie.Need-returns
 returns c =
     let s = c .before .before in
-    enough-asked _ (s .pre .0) (s .pre .1) (c .pipe-count .ensures .0) _ _ _ _ _
+    let a = s .args in
+    enough-asked (a .job .now) (s .pre .0) (s .pre .1) (c .pipe-count .ensures .0) (a .a) (a .b) (a .c) (a .d) (a .e)
 
 pub enough-spec : {M : Type 1} → statement M
 enough-spec =
