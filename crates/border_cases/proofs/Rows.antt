@@ -10,7 +10,7 @@ use Rattle.job.specs.Job.{laid, sections}
 use Rattle.job.specs.Format.{jobOf}
 use Rattle.recurrence.specs.Scan.{parted}
 use Rattle.recurrence.specs.Run.{Answer, Call, stopAnswer, stepsDone, answers}
-use Rattle.recurrence.specs.Calls.{Row, heads, inUse}
+use Rattle.recurrence.specs.Calls.{Row, heads, flows, highest, lowest, inUse}
 use Rattle.recurrence.specs.Paths.{EndAt, AtLeast}
 use Rattle.recurrence.specs.Lent.{heldAtStart, heldAfter, answerAt, isRefusal, carried, Chained, callOf, Tied, CallsTied, Demand3InRows}
 use Rattle.recurrence.specs.Continued.{AfterCalls, AllFinite, CanGoOn}
@@ -70,7 +70,14 @@ pub tied-cases : CallsTied → TiedCases
 unfolding opened opening callOf
 tied-cases tied =
     let t : Tied parting lentSevens (callsFrom parting) = tied parting lentSevens (met .started) (callsFrom parting) (met .chained) in
-    record { answered = t .answered ∙ parting-answers; one-step = t .done ∙ parting-done; heads-left = ap patterns (t .rows heads refl) }
+    record {
+      answered = t .answered ∙ parting-answers;
+      one-step = t .done ∙ parting-done;
+      heads-left = ap patterns (t .rows heads refl);
+      flows-left = ap patterns (t .rows flows refl);
+      highest-left = ap patterns (t .rows highest refl);
+      lowest-left = ap patterns (t .rows lowest refl);
+    }
 
 pub row-cases : Demand3InRows → CallsTied → RowCases
 row-cases claim tied =

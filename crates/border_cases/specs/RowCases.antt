@@ -12,7 +12,7 @@ use Rattle.wave.specs.Figures.{num}
 use Rattle.job.specs.Format.{jobOf}
 use Rattle.recurrence.specs.Scan.{parted, acceptable}
 use Rattle.recurrence.specs.Run.{stopAnswer}
-use Rattle.recurrence.specs.Calls.{Row, heads, flows, pointIn, stateIn}
+use Rattle.recurrence.specs.Calls.{Row, heads, flows, highest, lowest, pointIn, stateIn}
 use Rattle.recurrence.specs.Lent.{LentCall, Held, Started, heldAtStart, heldBy, answersBy, carried, Chained, callOf}
 use Rattle.recurrence.specs.Figures.{lentSevens, refusal, done}
 use Rattle.recurrence.specs.OwnFigures.{sevens, _are_}
@@ -54,6 +54,9 @@ pub record TiedCases : Type 0 where
   pub answered : answersBy parting lentSevens (callsFrom parting) ≡ refusal 20 ∷ done 1 ∷ refusal 21 ∷ stopAnswer parted 1 2 ∷ []
   pub one-step : held parting .done ≡ 1
   pub heads-left : take 3 (held parting .rows heads) are (num 10 ∷ num 10 ∷ num 14 ∷ [])
+  pub flows-left : take 3 (held parting .rows flows) are (num 4 ∷ num 4 ∷ num 0 ∷ [])
+  pub highest-left : take 3 (held parting .rows highest) are (num 10 ∷ num 10 ∷ num 14 ∷ [])
+  pub lowest-left : take 3 (held parting .rows lowest) are (num 10 ∷ num 10 ∷ num 10 ∷ [])
 
 -- at the first section and at the last, in each row that a caller carries; and question 22 gets a yes
 pub record ContinuedCases : Type 0 where
