@@ -8,4 +8,4 @@ use Rattle.surgelist.specs.Figures.{jobQTooOpen, jobQParting, alike, Lis
 
 pub listing-figures : ListingFigures
 unfolding opened digits placesWithin closingText linesText runOf pointLine sectionLines closingLine listingOf jobQTooOpen jobQParting alike
-listing-figures = record { job-q = refl; no-bytes = refl; too-open = refl; parting = refl }
+listing-figures = record { stopped-line = refl; job-q = refl; no-bytes = refl; too-open = refl; parting = refl }

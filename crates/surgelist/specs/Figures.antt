@@ -4,10 +4,12 @@ use mathlib.Core.Bool.{Bool, true, false, _&&_}
 use mathlib.Core.List.{List, [], _∷_, _++_}
 use Prim.Native.Nat.{ℕ}
 use lib.Dec.{eqb}
-use lib.ListN.{set}
+use lib.ListN.{length, set}
 use Rattle.job.specs.JobQ.{jobQ}
 use Rattle.listing_text.specs.Text.{ascii}
-use Rattle.surgelist.specs.ListingOf.{listingOf}
+use Rattle.recurrence.specs.Scan.{parted}
+use Rattle.recurrence.specs.Run.{ran, stop}
+use Rattle.surgelist.specs.ListingOf.{sectionLines, listingOf}
 
 -- job Q with the opening 2, which question 15 refuses; and with five steps for its listing and a floor of 7 at section 2, whose head is 6 at step 5
 unfoldable pub jobQTooOpen : List ℕ
@@ -28,6 +30,8 @@ abbrev pub _prints_ : List ℕ → List ℕ → Type 0
 job prints text = alike (listingOf job) text ≡ true
 
 pub record ListingFigures : Type 0 where
+  -- a stop has its lines too: one section, 70 bytes
+  pub stopped-line : length (sectionLines 1 (ran record { done = 4; state = record { points = [] } } (stop parted 2))) ≡ 70
   -- "Job Q ... one step", the four lines as document 01 prints them
   pub job-q : jobQ prints ascii "0 4024000000000000 4010000000000000 4024000000000000 4024000000000000\n"
       ++ (ascii "1 4024000000000000 4010000000000000 4024000000000000 4024000000000000\n"
