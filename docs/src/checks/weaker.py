@@ -4,9 +4,9 @@
 A claim that is said more weakly is true as well, so the crate that states it proves it, and a must-fail edit of that
 crate shows nothing. Each file of weaker/ is such an edit of `recurrence`, with what its proofs need for it. Tried in
 a copy: `recurrence` must still be proved, and `border_cases`, which uses each claim where it ends, must not be; its
-first error must stand in the file that the edit names after 'refused by:', and have no word of one that shows
-nothing or can't be read. With labels it tries those and prints
-each first error. Run after `rt check` or `rt ci` from anywhere.
+first error must stand in the file that the edit names after 'refused by:', and have no word of one that shows nothing
+or can't be read. With labels it tries those and prints each first error. Run after `rt check` or `rt ci` from
+anywhere.
 """
 import concurrent.futures
 import pathlib
