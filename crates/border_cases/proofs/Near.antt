@@ -3,7 +3,7 @@
 use mathlib.Core.Path.{_≡_, refl, sym, _∙_}
 use mathlib.Core.List.{List}
 use mathlib.Core.Option.{some, Option·some-injective, Option·some-ne-none}
-use Prim.Native.Nat.{ℕ, zero, suc, _-_, _≤_}
+use Prim.Native.Nat.{ℕ, zero, suc, _+_, _-_, _≤_}
 use native.Mathlib.Omega.{arith}
 use lib.ListN.{getElem?}
 use Rattle.job.specs.Job.{Laid, laid, sections}
@@ -83,6 +83,11 @@ opening-3 : BothDo jobQOpening 3
 unfolding opened opening BothDo
 opening-3 = (refl, refl)
 
+-- m at the bound k + d - 1: written out, so that an error shows both numbers
+bound-at-the-node : stepsDone (jobOf jobQ) (afterRefusal 1) ≤ 2 + 0 - 1
+unfolding BothDo
+bound-at-the-node = omega (arith, rising-1 .0)
+
 -- ---- one step further
 
 unlike-at-the-node : ¬ SameAt jobQ jobQRising (afterRefusal 2) 0
@@ -102,7 +107,7 @@ unfolding BothDo
 near-cases claim = record {
   at-the-node =
       claim jobQ jobQRising 0 2 rising-edited (afterRefusal 1) .near 0 0 (rising-1 .0 ∙ sym (rising-1 .1)) (omega (arith, three-sections)) at-the-reservoir
-      (omega (arith, rising-1 .0));
+      bound-at-the-node;
   at-the-node-no-longer = unlike-at-the-node;
   down-the-pipe =
       claim jobQ jobQRising 0 2 rising-edited (afterRefusal 3) .near 2 2 (rising-3 .0 ∙ sym (rising-3 .1)) (omega (arith, three-sections))

@@ -99,8 +99,8 @@ row-cases claim tied =
 pub continued-cases : AllFinite → CanGoOn → ContinuedCases
 unfolding AfterCalls
 continued-cases finite goes = record {
-  first-finite = λ x c. finite parting lentSevens (met .started) (callsFrom parting) (met .chained) x c 0 (in-use _ (omega arith) x c);
-  last-finite = λ x c. finite parting lentSevens (met .started) (callsFrom parting) (met .chained) x c 2 (in-use _ (omega arith) x c);
+  last-finite = λ x c. finite parting lentSevens (met .started) (callsFrom parting) (met .chained) x c 2 (in-use 2 (omega arith) x c);
+  first-finite = λ x c. finite parting lentSevens (met .started) (callsFrom parting) (met .chained) x c 0 (in-use 0 (omega arith) x c);
   goes-on = goes parting lentSevens (met .started) (callsFrom parting) (met .chained);
 }
   where

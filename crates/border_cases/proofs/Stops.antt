@@ -1,6 +1,7 @@
 -- Stops at their border, from demand 3 alone: at step k - 1 the stop of one run, which is computed, is that of the other. At step k two runs stop
 -- apart. Assumes nothing.
 use mathlib.Core.Path.{refl}
+use Prim.Native.Nat.{_<_}
 use native.Mathlib.Omega.{arith}
 use Rattle.recurrence.specs.Scan.{notFinite, parted}
 use Rattle.recurrence.proofs.AllDefinitions.{opened}
@@ -44,11 +45,18 @@ high-stops : StopsAt drainedThenHigh inThree 0 parted 0 0
 unfolding opened opening
 high-stops = refl
 
+-- the step of the stop, against k: written out, so that an error shows both numbers
+step-2-of-3 : 2 < 3
+step-2-of-3 = omega arith
+
+step-1-of-2 : 1 < 2
+step-1-of-2 = omega arith
+
 pub stop-cases : Claim → StopCases
 stop-cases claim = record {
-  parted-before-k = claim parting partingLate 0 3 late-edited inThree .stops 2 parted 1 2 (omega arith) .0 parting-stops;
-  not-finite-before-k = claim failing failingLate 0 3 failing-edited inThree .stops 2 notFinite 1 2 (omega arith) .0 failing-stops;
-  at-the-first-step = claim drained drainedThenHigh 0 2 drained-edited inThree .stops 0 parted 0 0 (omega arith) .1 high-stops;
+  parted-before-k = claim parting partingLate 0 3 late-edited inThree .stops 2 parted 1 2 step-2-of-3 .0 parting-stops;
+  not-finite-before-k = claim failing failingLate 0 3 failing-edited inThree .stops 2 notFinite 1 2 step-2-of-3 .0 failing-stops;
+  at-the-first-step = claim drained drainedThenHigh 0 2 drained-edited inThree .stops 0 parted 0 0 step-1-of-2 .1 high-stops;
   edited-from-2 = low-edited;
   unlike-at-k = (parting-stops, low-stops);
 }

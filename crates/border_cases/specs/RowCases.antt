@@ -58,8 +58,8 @@ pub record TiedCases : Type 0 where
   pub highest-left : take 3 (held parting .rows highest) are (num 10 ∷ num 10 ∷ num 14 ∷ [])
   pub lowest-left : take 3 (held parting .rows lowest) are (num 10 ∷ num 10 ∷ num 10 ∷ [])
 
--- at the first section and at the last, in each row that a caller carries; and question 22 gets a yes
+-- at the last section and at the first, in each row that a caller carries; and question 22 gets a yes
 pub record ContinuedCases : Type 0 where
-  pub first-finite : (x : Row) → carried x ≡ true → finite (getD (held parting .rows x) 0 zero64) ≡ true
   pub last-finite : (x : Row) → carried x ≡ true → finite (getD (held parting .rows x) 2 zero64) ≡ true
+  pub first-finite : (x : Row) → carried x ≡ true → finite (getD (held parting .rows x) 0 zero64) ≡ true
   pub goes-on : acceptable (jobOf parting) (stateIn (jobOf parting) (held parting .rows)) ≡ true
