@@ -4,5 +4,6 @@ pub mod Unlike
 pub mod Stops
 pub mod Near
 pub mod Apart
+pub mod Through
 pub mod Rows
 pub mod WithTheorems

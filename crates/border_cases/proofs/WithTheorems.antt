@@ -8,6 +8,7 @@ use Rattle.border_cases.specs.Border.{BorderCases}
 use Rattle.border_cases.proofs.AsRead.{as-read}
 use Rattle.border_cases.proofs.Stops.{stop-cases}
 use Rattle.border_cases.proofs.Near.{near-cases}
+use Rattle.border_cases.proofs.Through.{across-cases}
 use Rattle.border_cases.proofs.Apart.{apart-cases}
 use Rattle.border_cases.proofs.Rows.{met, row-cases, tied-cases, continued-cases}
 
@@ -19,6 +20,7 @@ border-cases = record {
   as-read = as-read;
   stops = stop-cases claim;
   near = near-cases claim;
+  through = across-cases claim;
   apart = apart-cases claim;
   met = met;
   rows = row-cases demand-3-in-rows calls-tied;

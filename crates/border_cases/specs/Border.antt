@@ -1,5 +1,5 @@
 -- All cases at the border. Definitions only.
-use Rattle.border_cases.specs.Cases.{AsRead, StopCases, NearCases, ApartCases}
+use Rattle.border_cases.specs.Cases.{AsRead, StopCases, NearCases, AcrossCases, ApartCases}
 use Rattle.border_cases.specs.RowCases.{Met, RowCases, TiedCases, ContinuedCases}
 
 -- Each clause of what demand 3 claims (`Carried`), of what a list of calls has to meet (`Chained`), of paths (`Paths`) and of the laws of continued runs
@@ -8,6 +8,7 @@ pub record BorderCases : Type 0 where
   pub as-read : AsRead
   pub stops : StopCases
   pub near : NearCases
+  pub through : AcrossCases
   pub apart : ApartCases
   pub met : Met
   pub rows : RowCases

@@ -14,11 +14,11 @@ use Rattle.job.specs.JobQ.{jobQ}
 use Rattle.recurrence.specs.State.{pointAt}
 use Rattle.recurrence.specs.Scan.{Cause, notFinite, parted}
 use Rattle.recurrence.specs.Run.{Call, stopAnswer, played, answers, stepsDone}
-use Rattle.recurrence.specs.Paths.{EndAt, NoPath}
+use Rattle.recurrence.specs.Paths.{EndAt, AtLeast, NoPath}
 use Rattle.recurrence.specs.Demand.{AlikeBut, AlikeBefore, Carried, seenBy}
 use Rattle.recurrence.specs.Figures.{jobQRising}
 use Rattle.recurrence.specs.OwnFigures.{_are_}
-use Rattle.border_cases.specs.Jobs.{jobQOpening, parting, partingLate, partingLow, failing, failingLate, drained, drainedThenHigh, mainsLevel, firstHigher, secondHigher, inThree, afterRefusal}
+use Rattle.border_cases.specs.Jobs.{jobQOpening, parting, partingLate, partingLow, failing, failingLate, drained, drainedThenHigh, mainsLevel, firstHigher, secondHigher, seriesLevel, seriesHigher, inThree, afterRefusal}
 
 -- ---- the jobs as they are read: levels of a reservoir, openings of a valve
 
@@ -82,6 +82,12 @@ pub record NearCases : Type 0 where
   -- four.
   pub up-the-pipe : SameAt jobQ jobQOpening (afterRefusal 3) 0
   pub up-the-pipe-no-longer : ¬ SameAt jobQ jobQOpening (afterRefusal 4) 0
+
+-- A path through a node, from one pipe into the next, k = 1: the last section is two reaches off, since the junction's ends are no reach apart.
+pub record AcrossCases : Type 0 where
+  pub two-off : AtLeast (laid (jobOf seriesLevel)) (EndAt (laid (jobOf seriesLevel)) 0) 3 2
+  pub through-the-node : SameAt seriesLevel seriesHigher (afterRefusal 2) 3
+  pub through-the-node-no-longer : ¬ SameAt seriesLevel seriesHigher (afterRefusal 3) 3
 
 -- ---- sections that no path joins to the edited node: those of one main, to a node of the other
 

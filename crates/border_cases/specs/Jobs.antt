@@ -101,6 +101,32 @@ firstHigher = twoMains at2 at1
 abbrev pub secondHigher : List ℕ
 secondHigher = twoMains at1 at2
 
+-- ---- two pipes of one reach end to end: a reservoir, a junction that nothing is drawn from, a reservoir at 1; sections 0 and 1, 2 and 3
+
+-- with the level of node 0
+unfoldable pub inSeries : List ℕ → List ℕ
+inSeries level =
+    5 ∷ 0 ∷ 1 ∷ 0 ∷ 0 ∷ 0
+    ∷ 46 ∷ 0 ∷ 0 ∷ 0 ∷ 24 ∷ 0 ∷ 0 ∷ 0
+    ∷ 70 ∷ 0 ∷ 0 ∷ 0 ∷ 78 ∷ 0 ∷ 0 ∷ 0
+    ∷ 148 ∷ 0 ∷ 0 ∷ 0 ∷ 16 ∷ 0 ∷ 0 ∷ 0
+    ∷ 164 ∷ 0 ∷ 0 ∷ 0 ∷ 96 ∷ 0 ∷ 0 ∷ 0
+    ∷ 4 ∷ 1 ∷ 0 ∷ 0 ∷ 24 ∷ 0 ∷ 0 ∷ 0
+    ∷ 0 ∷ 1 ∷ 1 ∷ 0 ∷ at1
+    ++ 1 ∷ 2 ∷ 1 ∷ 0 ∷ at1
+    ++ 1 ∷ 1 ∷ replicate 24 0
+    ++ 0 ∷ 1 ∷ replicate 24 0
+    ++ 1 ∷ 1 ∷ replicate 24 0
+    ++ replicate 16 0
+    ++ endToEnd (replicate 4 (at1 ++ at0 ++ at0))
+    ++ level ++ at0 ++ at1
+
+abbrev pub seriesLevel : List ℕ
+seriesLevel = inSeries at1
+
+abbrev pub seriesHigher : List ℕ
+seriesHigher = inSeries at2
+
 -- ---- lists of calls
 
 -- a step, a call that question 20 refuses, and nine steps

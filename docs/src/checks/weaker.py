@@ -50,7 +50,12 @@ def tried(edit):
 
 
 def main():
-    edits = [e for e in sorted(WEAKER.glob("*.edit")) if len(sys.argv) == 1 or e.stem in sys.argv[1:]]
+    edits = sorted(WEAKER.glob("*.edit"))
+    unknown = set(sys.argv[1:]) - {e.stem for e in edits}
+    if unknown:
+        print("weaker.py: no such edit: %s" % " ".join(sorted(unknown)))
+        return 2
+    edits = [e for e in edits if len(sys.argv) == 1 or e.stem in sys.argv[1:]]
     with concurrent.futures.ThreadPoolExecutor(2) as pool:
         results = list(pool.map(tried, edits))
     for edit, (refused, words) in zip(edits, results):
