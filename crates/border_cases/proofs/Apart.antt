@@ -67,7 +67,7 @@ from-2 =
     stays mains (EndAt mains 2) (λ s. ¬ (s < 2)) (λ s h v. omega (arith, end-same 2 s h .1 v)) (λ r s t h n v. n (beside-same r s t h .1 v))
     (λ y s t a b n v. n (end-same y s a .0 (end-same y t b .1 v)))
 
-unjoined-second : (s : ℕ) → 2 ≤ s → NoPath mains (EndAt mains 0) s
+pub unjoined-second : (s : ℕ) → 2 ≤ s → NoPath mains (EndAt mains 0) s
 unfolding NoPath
 unjoined-second s h e p = omega (arith, from-0 s e p)
 

@@ -21,6 +21,7 @@ rescheduled x vs j = record {
   nodes = set (j .nodes) x record { kind = nodeAt j x .kind; schedule = vs };
   friction = j .friction;
   initial = j .initial;
+  trips = j .trips;
 }
 
 alike : (j : Job) (x : ℕ) (vs : List Float) → x < length (j .nodes) → AlikeBut x j (rescheduled x vs j)
@@ -29,6 +30,7 @@ alike j x vs h = record {
   pipes = refl;
   friction = refl;
   initial = refl;
+  trips = refl;
   count = sym (length-set (j .nodes) x _);
   kind = ap (λ (n : ScheduledNode). n .kind) (sym (getD-set-same (j .nodes) x _ _ h));
   others = λ y n. sym (getD-set-other (j .nodes) x y _ _ n);

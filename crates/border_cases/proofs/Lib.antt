@@ -5,5 +5,6 @@ pub mod Stops
 pub mod Near
 pub mod Apart
 pub mod Through
+pub mod Nodes
 pub mod Rows
 pub mod WithTheorems

@@ -10,10 +10,10 @@ use Rattle.job.specs.Job.{Laid, laid, sections}
 use Rattle.job.specs.Format.{jobOf}
 use Rattle.job.specs.JobQ.{jobQ}
 use Rattle.recurrence.specs.Run.{stepsDone}
-use Rattle.recurrence.specs.Paths.{EndAt, startsAt, finishesAt, Beside, down, up, AtLeast}
+use Rattle.recurrence.specs.Paths.{EndAt, AtLeast}
 use Rattle.recurrence.specs.Figures.{jobQRising}
 use Rattle.recurrence.proofs.AllDefinitions.{opened}
-use Rattle.recurrence.proofs.Sharp.{by-levels, OnePipe, sharp-across}
+use Rattle.recurrence.proofs.Sharp.{OnePipe, up-one-pipe, sharp-across}
 use Rattle.border_cases.specs.Jobs.{opening, jobQOpening, afterRefusal}
 use Rattle.border_cases.specs.Cases.{Edited, Claim, SameAt, NearCases}
 use Rattle.border_cases.proofs.Edits.{rescheduled, edited}
@@ -48,22 +48,7 @@ unfolding AtLeast
 at-the-reservoir e p = omega arith
 
 up-from-the-valve : AtLeast laidQ (EndAt laidQ 1) 0 2
-unfolding AtLeast
-up-from-the-valve e p = by-levels laidQ (EndAt laidQ 1) (λ s. 2 - s) from next same 0 e p
-  where
-    from : (s : ℕ) → EndAt laidQ 1 s → 2 - s ≡ 0
-    from s (startsAt p l e q h) = omega (arith, only p l e)
-    from s (finishesAt p l e q h) = omega (arith, only p l e)
-
-    next : (r s t : ℕ) → Beside laidQ r s t → 2 - t ≤ suc (2 - s)
-    next r s t (down p l i e h q a b) = omega arith
-    next r s t (up p l i e h q a b) = omega arith
-
-    same : (y s t : ℕ) → EndAt laidQ y s → EndAt laidQ y t → 2 - t ≤ 2 - s
-    same y s t (startsAt p l e q h) (startsAt p′ l′ e′ q′ h′) = omega (arith, only p l e, only p′ l′ e′)
-    same y s t (startsAt p l e q h) (finishesAt p′ l′ e′ q′ h′) = omega (arith, only p l e, only p′ l′ e′)
-    same y s t (finishesAt p l e q h) (startsAt p′ l′ e′ q′ h′) = omega (arith, only p l e, only p′ l′ e′)
-    same y s t (finishesAt p l e q h) (finishesAt p′ l′ e′ q′ h′) = omega (arith, only p l e, only p′ l′ e′)
+up-from-the-valve = up-one-pipe laidQ only
 
 -- ---- the runs
 

@@ -10,6 +10,7 @@ use Rattle.border_cases.proofs.Stops.{stop-cases}
 use Rattle.border_cases.proofs.Near.{near-cases}
 use Rattle.border_cases.proofs.Through.{across-cases}
 use Rattle.border_cases.proofs.Apart.{apart-cases}
+use Rattle.border_cases.proofs.Nodes.{node-cases, node-apart-cases}
 use Rattle.border_cases.proofs.Rows.{met, row-cases, tied-cases, continued-cases}
 
 claim : Claim
@@ -22,6 +23,8 @@ border-cases = record {
   near = near-cases claim;
   through = across-cases claim;
   apart = apart-cases claim;
+  nodes = node-cases claim;
+  nodes-apart = node-apart-cases claim;
   met = met;
   rows = row-cases demand-3-in-rows calls-tied;
   tied = tied-cases calls-tied;

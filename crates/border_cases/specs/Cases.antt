@@ -6,7 +6,7 @@ use mathlib.Core.Option.{some}
 use Prim.Native.Nat.{ℕ, _≤_, _<_}
 use lib.ListN.{getElem?}
 use lib.Ieee.{Float}
-use Rattle.wave.specs.Figures.{num}
+use Rattle.wave.specs.Figures.{num, halved}
 use Rattle.job.specs.Job.{laid, nodeAt}
 use Rattle.job.specs.Format.{jobOf}
 use Rattle.job.specs.Questions.{Accepted}
@@ -18,9 +18,10 @@ use Rattle.recurrence.specs.Paths.{EndAt, AtLeast, NoPath}
 use Rattle.recurrence.specs.Demand.{AlikeBut, AlikeBefore, Carried, seenBy}
 use Rattle.recurrence.specs.Figures.{jobQRising}
 use Rattle.recurrence.specs.OwnFigures.{_are_}
-use Rattle.border_cases.specs.Jobs.{jobQOpening, parting, partingLate, partingLow, failing, failingLate, drained, drainedThenHigh, mainsLevel, firstHigher, secondHigher, seriesLevel, seriesHigher, inThree, afterRefusal}
+use Rattle.recurrence.specs.TrippedJobs.{tripped, trippedRising}
+use Rattle.border_cases.specs.Jobs.{jobQOpening, parting, partingLate, partingLow, failing, failingLate, drained, drainedThenHigh, mainsLevel, firstHigher, secondHigher, seriesLevel, seriesHigher, trippedSlower, trippedHigher, pumpingSlower, inThree, afterRefusal}
 
--- ---- the jobs as they are read: levels of a reservoir, openings of a valve
+-- ---- the jobs as they are read: levels of a reservoir, openings of a valve, speeds of a pump and its record
 
 abbrev pub schedule : List ℕ → ℕ → List Float
 schedule job node = nodeAt (jobOf job) node .schedule
@@ -34,6 +35,11 @@ pub record AsRead : Type 0 where
   pub drained-then-high : schedule drainedThenHigh 0 are (num 0 ∷ num 12 ∷ [])
   pub first-higher : schedule firstHigher 0 are (num 2 ∷ [])
   pub second-higher : schedule secondHigher 2 are (num 2 ∷ [])
+  pub tripped-rising : schedule trippedRising 1 are (num 8 ∷ num 10 ∷ [])
+  pub tripped-higher : schedule trippedHigher 1 are (num 10 ∷ [])
+  pub tripped-slower : schedule trippedSlower 0 are (halved 1 1 ∷ [])
+  pub pumping-slower : schedule pumpingSlower 0 are (num 1 ∷ halved 1 1 ∷ [])
+  pub tripped-at-2 : jobOf tripped .trips ≡ record { node = 0; step = 2; G = halved 1 2; t0 = num 1; t1 = halved 1 3 } ∷ []
 
 -- ---- demand 3, as the cases take it
 

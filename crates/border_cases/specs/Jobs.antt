@@ -1,6 +1,6 @@
 -- The jobs of bytes and the lists of calls of the cases at the border. Definitions only.
 use mathlib.Core.Bool.{true, false}
-use mathlib.Core.List.{List, [], _∷_, _++_, foldr}
+use mathlib.Core.List.{List, [], _∷_, _++_}
 use Prim.Native.Nat.{ℕ, _+_, _*_}
 use lib.ListN.{length, take, replicate}
 use lib.Ieee.{nan}
@@ -10,30 +10,15 @@ use Rattle.recurrence.specs.Calls.{Row, Rows, gathered, startCall, runOnCall}
 use Rattle.recurrence.specs.Lent.{LentCall}
 use Rattle.recurrence.specs.Figures.{patched}
 use Rattle.recurrence.specs.OwnFigures.{short}
+use Rattle.recurrence.specs.TrippedJobs.{f64Of, at0, half, at1, at8, at10, joined, tripping}
 
 -- ---- bytes
-
--- an f64 of which only the two highest bytes are not 0
-abbrev pub f64Of : ℕ → ℕ → List ℕ
-f64Of low high = replicate 6 0 ++ low ∷ high ∷ []
-
-abbrev pub at0 : List ℕ
-at0 = f64Of 0 0
-
-abbrev pub at1 : List ℕ
-at1 = f64Of 240 63
 
 abbrev pub at2 : List ℕ
 at2 = f64Of 0 64
 
-abbrev pub at10 : List ℕ
-at10 = f64Of 36 64
-
 abbrev pub at12 : List ℕ
 at12 = f64Of 40 64
-
-abbrev pub endToEnd : List (List ℕ) → List ℕ
-endToEnd xs = foldr (λ x rest. x ++ rest) [] xs
 
 -- ---- job Q with a valve that is shut at step 1 and opens at step 2
 
@@ -41,7 +26,7 @@ endToEnd xs = foldr (λ x rest. x ++ rest) [] xs
 unfoldable pub opening : List (ℕ × ℕ) → List (List ℕ) → List ℕ
 unfolding patched
 opening changes levels =
-    patched (take 206 jobQ) ((42, 24 + 8 * length levels) ∷ (59, 1 + length levels) ∷ (85, 2) ∷ changes) ++ endToEnd levels ++ at0 ++ at1
+    patched (take 206 jobQ) ((42, 24 + 8 * length levels) ∷ (59, 1 + length levels) ∷ (85, 2) ∷ changes) ++ joined levels ++ at0 ++ at1
 
 abbrev pub jobQOpening : List ℕ
 jobQOpening = opening [] []
@@ -76,9 +61,12 @@ drainedThenHigh = opening ((204, 0) ∷ (205, 0) ∷ floorsAt10) (at12 ∷ [])
 
 -- ---- two mains, each a pipe of one reach between two reservoirs: nodes and sections 0 and 1, nodes and sections 2 and 3
 
--- with the levels of nodes 0 and 2; those of nodes 1 and 3 are 1
-unfoldable pub twoMains : List ℕ → List ℕ → List ℕ
-twoMains first second =
+abbrev pub aReservoir : List ℕ
+aReservoir = 1 ∷ 1 ∷ replicate 24 0
+
+-- with the record of node 2, and the first entries of nodes 0 and 2; those of nodes 1 and 3 are 1
+unfoldable pub twoMains : List ℕ → List ℕ → List ℕ → List ℕ
+twoMains third first second =
     5 ∷ 0 ∷ 1 ∷ 0 ∷ 0 ∷ 0
     ∷ 46 ∷ 0 ∷ 0 ∷ 0 ∷ 24 ∷ 0 ∷ 0 ∷ 0
     ∷ 70 ∷ 0 ∷ 0 ∷ 0 ∷ 104 ∷ 0 ∷ 0 ∷ 0
@@ -87,19 +75,29 @@ twoMains first second =
     ∷ 30 ∷ 1 ∷ 0 ∷ 0 ∷ 32 ∷ 0 ∷ 0 ∷ 0
     ∷ 0 ∷ 1 ∷ 1 ∷ 0 ∷ at1
     ++ 2 ∷ 3 ∷ 1 ∷ 0 ∷ at1
-    ++ endToEnd (replicate 4 (1 ∷ 1 ∷ replicate 24 0))
+    ++ joined (aReservoir ∷ aReservoir ∷ third ∷ aReservoir ∷ [])
     ++ replicate 16 0
-    ++ endToEnd (replicate 4 (at1 ++ at0 ++ at0))
+    ++ joined (replicate 4 (at1 ++ at0 ++ at0))
     ++ first ++ at1 ++ second ++ at1
 
 abbrev pub mainsLevel : List ℕ
-mainsLevel = twoMains at1 at1
+mainsLevel = twoMains aReservoir at1 at1
 
 abbrev pub firstHigher : List ℕ
-firstHigher = twoMains at2 at1
+firstHigher = twoMains aReservoir at2 at1
 
 abbrev pub secondHigher : List ℕ
-secondHigher = twoMains at1 at2
+secondHigher = twoMains aReservoir at1 at2
+
+-- with a pump for node 2, at full speed: a = 2, b and c are 0
+abbrev pub aPump : List ℕ
+aPump = 3 ∷ 1 ∷ at2 ++ at0 ++ at0
+
+abbrev pub pumpBeside : List ℕ
+pumpBeside = twoMains aPump at1 at1
+
+abbrev pub pumpBesideHigher : List ℕ
+pumpBesideHigher = twoMains aPump at2 at1
 
 -- ---- two pipes of one reach end to end: a reservoir, a junction that nothing is drawn from, a reservoir at 1; sections 0 and 1, 2 and 3
 
@@ -114,11 +112,11 @@ inSeries level =
     ∷ 4 ∷ 1 ∷ 0 ∷ 0 ∷ 24 ∷ 0 ∷ 0 ∷ 0
     ∷ 0 ∷ 1 ∷ 1 ∷ 0 ∷ at1
     ++ 1 ∷ 2 ∷ 1 ∷ 0 ∷ at1
-    ++ 1 ∷ 1 ∷ replicate 24 0
+    ++ aReservoir
     ++ 0 ∷ 1 ∷ replicate 24 0
-    ++ 1 ∷ 1 ∷ replicate 24 0
+    ++ aReservoir
     ++ replicate 16 0
-    ++ endToEnd (replicate 4 (at1 ++ at0 ++ at0))
+    ++ joined (replicate 4 (at1 ++ at0 ++ at0))
     ++ level ++ at0 ++ at1
 
 abbrev pub seriesLevel : List ℕ
@@ -126,6 +124,21 @@ seriesLevel = inSeries at1
 
 abbrev pub seriesHigher : List ℕ
 seriesHigher = inSeries at2
+
+-- ---- a pump two reaches from a reservoir (`tripping`), beside `tripped` and `trippedRising`: its first entry 1/2; the reservoir at 10 from the first step on
+
+abbrev pub trippedSlower : List ℕ
+trippedSlower = tripping 2 (half ∷ []) (at8 ∷ [])
+
+abbrev pub trippedHigher : List ℕ
+trippedHigher = tripping 2 (at1 ∷ []) (at10 ∷ [])
+
+-- not tripped before step 9: at 1, and from step 2 on at 1/2
+abbrev pub pumping : List ℕ
+pumping = tripping 9 (at1 ∷ []) (at8 ∷ [])
+
+abbrev pub pumpingSlower : List ℕ
+pumpingSlower = tripping 9 (at1 ∷ half ∷ []) (at8 ∷ [])
 
 -- ---- lists of calls
 
@@ -137,19 +150,19 @@ inThree = record { count = 1; enough = true } ∷ record { count = 9; enough = f
 abbrev pub afterRefusal : ℕ → List Call
 afterRefusal N = record { count = 9; enough = false } ∷ record { count = N; enough = true } ∷ []
 
--- what is held by a caller, lent to a run-on: NaNs past the three sections, and a spare of NaNs
+-- what is held by a caller, lent to a run-on: NaNs past the three sections and the two nodes, and a spare of NaNs
 abbrev pub lentOn : Rows → Rows
-lentOn held x = take (gathered 3 3 3 3 0 x) (held x) ++ replicate 5 nan
+lentOn held x = take (gathered 3 3 3 3 2 2 0 x) (held x) ++ replicate 5 nan
 
 -- the rows that a run-on of one step after a start leaves
 abbrev pub atStep1 : List ℕ → Rows → Rows
 atStep1 job lent = runOnCall job 0 1 (lentOn (startCall job lent .rows)) .rows
 
--- After a start: a call that question 20 refuses, lent sevens, and too few of them in row x; a step; a call that question 21 refuses; nine steps.
-abbrev pub fourCalls : List ℕ → Rows → Row → List LentCall
-fourCalls job lent x =
+-- After a start: a call that question 20 refuses, lent sevens, and too few of them in row x; a step; a call that question 21 refuses; N steps.
+abbrev pub fourCalls : ℕ → List ℕ → Rows → Row → List LentCall
+fourCalls N job lent x =
     record { count = 9; rows = short x }
     ∷ record { count = 1; rows = lentOn (startCall job lent .rows) }
     ∷ record { count = 1_000_001; rows = atStep1 job lent }
-    ∷ record { count = 9; rows = atStep1 job lent }
+    ∷ record { count = N; rows = atStep1 job lent }
     ∷ []

@@ -1,4 +1,5 @@
 pub mod Jobs
 pub mod Cases
+pub mod NodeCases
 pub mod RowCases
 pub mod Border

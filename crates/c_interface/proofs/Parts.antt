@@ -31,9 +31,9 @@ packed-setting held f a e l =
     let same = sym a ∙ ap (λ (x : Set.Called). x .answer) f in
     (e ∙ ap packedSetting same, ap (λ (x : Set.Called). x .heads) f, ap (λ (x : Set.Called). x .flows) f, l ∙ ap (λ (x : Set.Answer). coefficientLeft x held) same)
 
--- The three kinds of that answer are told apart by its number: a refusal has its own, from 1 to 52, 'none' 255, a coefficient 0.
+-- The three kinds of that answer are told apart by its number: a refusal has its own, from 1 to 53, 'none' 255, a coefficient 0.
 abbrev Told : Set.Answer → ℕ → Type 0
-Told (Set.refused q) n = (n ≡ q) × (1 ≤ n) × (n ≤ 52)
+Told (Set.refused q) n = (n ≡ q) × (1 ≤ n) × (n ≤ 53)
 Told Set.none n = n ≡ 255
 Told (Set.coefficient a) n = n ≡ 0
 

@@ -6,7 +6,7 @@ use Rattle.recurrence.specs.Run.{Answer}
 use Rattle.setting.specs.Setting as Set
 
 -- The number of a question or a stop, 0 where there is neither, in the lowest 8 binary digits; a section or a section count in the next 12; steps in
--- the next 32. Every answer of document 01 and of the requests that have landed fits: numbers up to 52, and 255 for 'none', sections up to 512, steps up to 1,000,000.
+-- the next 32. Every answer of document 01 and of the requests that have landed fits: numbers up to 53, and 255 for 'none', sections up to 512, steps up to 1,000,000.
 unfoldable pub packed : ℕ → ℕ → ℕ → ℕ
 packed number section steps = number % 256 + 256 * (section % 4096) + 1048576 * (steps % 4294967296)
 

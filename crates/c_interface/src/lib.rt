@@ -42,7 +42,7 @@ pub extern "C" fn vintuqay_root(x: f64) -> f64
     root::root_of(x)
 }
 
-// Questions 1 to 15, with 50.
+// Questions 1 to 15, with 50 and 53.
 #[no_mangle]
 pub extern "C" fn vintuqay_read(job: &[u8]) -> u64
     ensures { λ r. ⌜ r ≡ packedRead (readAnswer (now (job .entry))) ⌝ }
@@ -62,12 +62,15 @@ pub extern "C" fn vintuqay_start(
     flows: &mut [f64],
     highest: &mut [f64],
     lowest: &mut [f64],
+    speeds: &mut [f64],
+    inflows: &mut [f64],
     spare: &mut [f64],
 ) -> u64
-    ensures { λ r. ⌜ (let call = startCall (now (job .entry)) (before heads flows highest lowest spare) in
-        (r ≡ packedAnswer (call .answer)) × (after heads flows highest lowest spare ≡ call .rows)) ⌝ }
+    ensures { λ r. ⌜ (let call =
+        startCall (now (job .entry)) (before heads flows highest lowest speeds inflows spare) in
+        (r ≡ packedAnswer (call .answer)) × (after heads flows highest lowest speeds inflows spare ≡ call .rows)) ⌝ }
 {
-    pack_answer(surge::start(job, heads, flows, highest, lowest, spare))
+    pack_answer(surge::start(job, heads, flows, highest, lowest, speeds, inflows, spare))
 }
 
 // The run-on: m is `done`, N is `count`.
@@ -80,12 +83,26 @@ pub extern "C" fn vintuqay_run_on(
     flows: &mut [f64],
     highest: &mut [f64],
     lowest: &mut [f64],
+    speeds: &mut [f64],
+    inflows: &mut [f64],
     spare: &mut [f64],
 ) -> u64
-    ensures { λ r. ⌜ (let call = runOnCall (now (job .entry)) done count (before heads flows highest lowest spare) in
-        (r ≡ packedAnswer (call .answer)) × (after heads flows highest lowest spare ≡ call .rows)) ⌝ }
+    ensures { λ r. ⌜ (let call =
+        runOnCall (now (job .entry)) done count (before heads flows highest lowest speeds inflows spare) in
+        (r ≡ packedAnswer (call .answer)) × (after heads flows highest lowest speeds inflows spare ≡ call .rows)) ⌝ }
 {
-    pack_answer(surge::run_on(job, done, count, heads, flows, highest, lowest, spare))
+    pack_answer(surge::run_on(
+        job,
+        done,
+        count,
+        heads,
+        flows,
+        highest,
+        lowest,
+        speeds,
+        inflows,
+        spare,
+    ))
 }
 
 // Sets the valve of a chain for a discharge at a level. The coefficient is written where one is given.

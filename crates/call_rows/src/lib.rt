@@ -1,4 +1,5 @@
-// What a call writes in the rows besides its steps: the initial state, and +0 in the spare.
+// What a call writes in the rows besides its steps: the initial state of the sections and of the nodes, and +0 in the
+// spare.
 ghost use mathlib.Core.Path.{_≡_};
 ghost use mathlib.Core.Bool.{true};
 ghost use Prim.Native.Nat.{ℕ, _*_, _≤_};
@@ -7,9 +8,10 @@ ghost use lib.Ieee.{Float};
 ghost use Rattle.fields.specs.Real.{zero64};
 ghost use Rattle.loops.specs.Fill.{fill};
 ghost use Rattle.job.specs.Job.{sections, initialAt};
-ghost use Rattle.job.specs.Format.{jobOf, pipeTable, pipeCount};
+ghost use Rattle.job.specs.Format.{jobOf, pipeTable, nodeTable, pipeCount, nodeCount};
 ghost use Rattle.job.specs.TableEntries.{initialOf};
 ghost use Rattle.job.specs.Questions.{Accepted, initialFits};
+ghost use Rattle.recurrence.specs.State.{startDrive};
 
 // The initial heads and flows of table 4 into the rows of heads and flows, and the heads into both envelopes.
 fn write_initial(
@@ -63,6 +65,22 @@ pub fn write_start(
 {
     let initial = job::tables::initial(job);
     write_initial(initial, n, heads, flows, highest, lowest);
+}
+
+// The pair of each node at the start: of a pump its first scheduled speed and +0, of any other node +0 twice.
+pub fn start_pairs(job: &[u8], speeds: &mut [f64], inflows: &mut [f64])
+    requires { ⌜ Accepted (now job) ⌝ }
+    requires { ⌜ (nodeCount (nodeTable (now job)) ≤ length (now speeds))
+        × (nodeCount (nodeTable (now job)) ≤ length (now inflows)) ⌝ }
+    ensures { λ _. ⌜ (let pair = startDrive (jobOf (now (job .entry))) in
+        let n = nodeCount (nodeTable (now (job .entry))) in
+        (now (speeds .exit) ≡ fill (λ y. pair y .speed) (now (speeds .entry)) 0 n)
+        × (now (inflows .exit) ≡ fill (λ y. pair y .inflow) (now (inflows .entry)) 0 n)) ⌝ }
+{
+    let mut values = [0.0f64; 32];
+    let none = [0.0f64; 32];
+    node_values::scheduled_at(job, 1, &mut values);
+    node_values::write_pairs(job, &values, &none, speeds, inflows);
 }
 
 // The spare +0 in four entries a pipe.

@@ -18,7 +18,7 @@ abbrev pub node : Kind → List Float → ScheduledNode
 node kind schedule = record { kind = kind; schedule = schedule }
 
 abbrev pub job : List Pipe → List ScheduledNode → Job
-job pipes nodes = record { pipes = pipes; nodes = nodes; friction = []; initial = [] }
+job pipes nodes = record { pipes = pipes; nodes = nodes; friction = []; initial = []; trips = [] }
 
 -- a reservoir, a valve and a pump; a junction by its draw-offs, and one that nothing is drawn from
 abbrev pub aReservoir : ScheduledNode

@@ -1,6 +1,6 @@
 -- What an accepted job holds, of the tables and of the record that they are read into. Assumes nothing.
 use mathlib.Core.Path.{_≡_}
-use mathlib.Core.Bool.{true, not, _&&_}
+use mathlib.Core.Bool.{true, false, not, _&&_}
 use mathlib.Core.List.{List}
 use mathlib.Core.Option.{some}
 use Prim.Native.Nat.{ℕ, _*_, _/_, _%_, _<_, _≤_}
@@ -9,16 +9,16 @@ use lib.Dec.{eqb, leb, ltb}
 use lib.Ieee.{lt}
 use lib.Ieee.Scale.{finite}
 use Rattle.fields.specs.Real.{zero64}
-use borrow.Author.Tests.{leb-true, ltb-true, eqb-true, eqb-false, not-true}
-use Rattle.loops.proofs.All.{all-at}
+use borrow.Author.Tests.{leb-true, ltb-true, eqb-true, eqb-false, not-true, not-false}
+use Rattle.loops.proofs.All.{all-at, all-no}
 use Rattle.job.specs.Job.{Pipe, sectionsOf, sections}
-use Rattle.job.specs.Format.{pipeTable, nodeTable, frictionTable, initialTable, scheduleTable, countTable, pipeCount, pipeIn, pipesIn, reachesOf, nodeCount, nodesIn, jobOf}
-use Rattle.job.specs.Questions.{holdsRecords, joins, pipesJoin, sectionsFit, constantFits, constantsFit, kindsFit, countsFit, figuresFit, nodesMet, frictionFits, frictionRight, hasLength, initialFits, initialRight, schedulesRight, pipeQuestions, nodeQuestions, valueQuestions, firstNo, Accepted}
+use Rattle.job.specs.Format.{pipeTable, nodeTable, frictionTable, initialTable, scheduleTable, countTable, tripTable, pipeCount, pipeIn, pipesIn, reachesOf, nodeCount, nodesIn, jobOf}
+use Rattle.job.specs.Questions.{holdsRecords, joins, pipesJoin, sectionsFit, constantFits, constantsFit, kindsFit, countsFit, tripsFit, figuresFit, endsAt, hasEnd, nodesMet, frictionFits, frictionRight, hasLength, initialFits, initialRight, schedulesRight, pipeQuestions, nodeQuestions, valueQuestions, firstNo, Accepted}
 use Rattle.job.specs.QuestionParts.{NodesRight}
 use Rattle.job.proofs.FirstNo.{yes, none-refused}
 use Rattle.job.proofs.TableBounds.{PairsRight, pairs-right}
 use Rattle.loops.proofs.Tests.{both}
-use Rattle.loops.proofs.Listed.{length-listed, listed-some}
+use Rattle.loops.proofs.Listed.{length-listed, at-listed, listed-some}
 
 -- ---- the tables: each question that was asked of them has a yes
 
@@ -30,6 +30,7 @@ pub record TablesRight (job : List ℕ) : Type 0 where
   pub few-sections : sectionsFit (pipeTable job) ≡ true
   pub constants : constantsFit (pipeTable job) ≡ true
   pub nodes : NodesRight (nodeTable job) (countTable job) (scheduleTable job)
+  pub trips : tripsFit (nodeTable job) (tripTable job) ≡ true
   pub met : nodesMet (pipeTable job) (nodeCount (nodeTable job)) ≡ true
   pub friction : frictionRight (pipeTable job) (frictionTable job) ≡ true
   pub initial : initialRight (pipeTable job) (initialTable job) ≡ true
@@ -53,7 +54,8 @@ tables-right job h =
     let q9 = yes (constantsFit (pipeTable job)) 8 _ (q8 .1) in
     let q10 = yes (kindsFit (nodeTable job) (countTable job)) 9 _ (none .nodes) in
     let q50 = yes (countsFit (nodeTable job) (countTable job)) 49 _ (q10 .1) in
-    let q11 = yes (figuresFit (nodeTable job)) 10 _ (q50 .1) in
+    let q53 = yes (tripsFit (nodeTable job) (tripTable job)) 52 _ (q50 .1) in
+    let q11 = yes (figuresFit (nodeTable job)) 10 _ (q53 .1) in
     let q12 = yes (nodesMet (pipeTable job) (nodeCount (nodeTable job))) 11 _ (q11 .1) in
     let q13 = yes (frictionRight (pipeTable job) (frictionTable job)) 12 _ (none .values) in
     let q14 = yes (initialRight (pipeTable job) (initialTable job)) 13 _ (q13 .1) in
@@ -66,6 +68,7 @@ tables-right job h =
       few-sections = q8 .0;
       constants = q9 .0;
       nodes = record { kinds = q10 .0; counted = q50 .0; figures = q11 .0; entries = q15 .0 };
+      trips = q53 .0;
       met = q12 .0;
       friction = q13 .0;
       initial = q14 .0;
@@ -172,3 +175,24 @@ module _ (job : List ℕ) (h : Accepted job) (p : ℕ) where
 
     pub accepted-reaches : 1 ≤ q .reaches
     accepted-reaches = accepted-pipe .has-reach
+
+-- ---- a node: question 12's yes names a pipe that ends there
+
+pub record Met (job : List ℕ) (node : ℕ) : Type 0 where
+  pub number : ℕ
+  pub pipe : Pipe
+  pub listed : getElem? (jobOf job .pipes) number ≡ some pipe
+  pub ends : endsAt node pipe ≡ true
+
+pub accepted-met : (job : List ℕ) → Accepted job → (node : ℕ) → node < length (jobOf job .nodes) → Met job node
+unfolding nodesMet hasEnd jobOf pipesIn
+accepted-met job h node l =
+    let pipes = pipeTable job in
+    let within : node < nodeCount (nodeTable job) = rw (nodes-length job h) at l in
+    let found = all-no (λ p. not (endsAt node (pipeIn pipes p))) (pipeCount pipes) (not-true _ (all-at (hasEnd pipes) node (nodeCount (nodeTable job)) (tables-right job h .met) within)) in
+    record {
+      number = found .0;
+      pipe = pipeIn pipes (found .0);
+      listed = at-listed (pipeCount pipes) (pipeIn pipes) (found .0) (found .1 .0);
+      ends = not-false _ (found .1 .1);
+    }

@@ -7,50 +7,50 @@ use lib.Ieee.{Float, binary64, ofBits}
 use Rattle.fields.specs.Real.{zero64, one64, two64, four64}
 use Rattle.job.specs.Job.{junction, reservoir, valve, pump, laid, laidFrom, nodeAt, entryAt, scheduled}
 use Rattle.loops.specs.Loops.{listed}
-use Rattle.job.specs.Format.{nodeTable, countTable, placeOf, jobOf}
+use Rattle.job.specs.Format.{nodeTable, countTable, placeOf, tripsIn, jobOf}
 use Rattle.job.specs.JobQ.{jobQ}
 use Rattle.job.specs.OwnJobs.{jobOfAllKinds, wrappedPairs}
 use Rattle.job.specs.Questions.{refusal, Accepted}
 use Rattle.job.proofs.AllDefinitions.{opened}
 
--- the numbers of the two jobs
-abbrev ten : Float
+-- the numbers of the jobs
+abbrev pub ten : Float
 ten = ofBits binary64 0x4024_0000_0000_0000
 
-abbrev nine : Float
+abbrev pub nine : Float
 nine = ofBits binary64 0x4022_0000_0000_0000
 
-abbrev eight : Float
+abbrev pub eight : Float
 eight = ofBits binary64 0x4020_0000_0000_0000
 
-abbrev seven : Float
+abbrev pub seven : Float
 seven = ofBits binary64 0x401c_0000_0000_0000
 
-abbrev six : Float
+abbrev pub six : Float
 six = ofBits binary64 0x4018_0000_0000_0000
 
-abbrev five : Float
+abbrev pub five : Float
 five = ofBits binary64 0x4014_0000_0000_0000
 
-abbrev three : Float
+abbrev pub three : Float
 three = ofBits binary64 0x4008_0000_0000_0000
 
-abbrev half : Float
+abbrev pub half : Float
 half = ofBits binary64 0x3fe0_0000_0000_0000
 
-abbrev quarter : Float
+abbrev pub quarter : Float
 quarter = ofBits binary64 0x3fd0_0000_0000_0000
 
 abbrev tenth : Float
 tenth = ofBits binary64 0x3fb9_9999_9999_999a
 
-abbrev threeHalves : Float
+abbrev pub threeHalves : Float
 threeHalves = ofBits binary64 0x3ff8_0000_0000_0000
 
-abbrev minusOne : Float
+abbrev pub minusOne : Float
 minusOne = ofBits binary64 0xbff0_0000_0000_0000
 
-abbrev minusThree : Float
+abbrev pub minusThree : Float
 minusThree = ofBits binary64 0xc008_0000_0000_0000
 
 abbrev minusFour : Float
@@ -77,6 +77,7 @@ pub job-Q-is-read :
           ∷ record { head = ten; flow = four64; floor = zero64 }
           ∷ record { head = ten; flow = four64; floor = zero64 }
           ∷ [];
+      trips = [];
     }
 unfolding opened
 job-Q-is-read = refl
@@ -100,6 +101,7 @@ pub job-of-all-kinds-is-read :
           ∷ record { head = six; flow = two64; floor = two64 }
           ∷ record { head = five; flow = two64; floor = three }
           ∷ [];
+      trips = [];
     }
 unfolding opened
 job-of-all-kinds-is-read = refl
@@ -119,7 +121,7 @@ pub second-pipe-is-laid :
     ∷ record { pipe = record { start = 2; finish = 3; reaches = 3; S = two64 }; firstSection = 2; firstReach = 1 }
     ∷ []
 unfolding laid laidFrom
-second-pipe-is-laid = rw job-of-all-kinds-is-read
+second-pipe-is-laid = rw job-of-all-kinds-is-read refl
 
 -- "A node reads entry n of its schedule at step n, counted from 1, and its last entry afterwards": the valve at steps 1 to 4, and the pump at steps 1 to 3
 pub schedules-are-read :
@@ -128,3 +130,12 @@ pub schedules-are-read :
     × (scheduled (jobOf jobOfAllKinds) 1 2 ≡ one64) × (scheduled (jobOf jobOfAllKinds) 2 2 ≡ zero64) × (scheduled (jobOf jobOfAllKinds) 3 2 ≡ zero64)
 unfolding scheduled nodeAt entryAt
 schedules-are-read = rw job-of-all-kinds-is-read (refl, refl, refl, refl, refl, refl, refl)
+
+-- Table 7: two records, of node 1 at step 2 and of node 258 at step 16,909,060; each number's bytes from the lowest
+pub trips-are-read :
+    tripsIn
+    (1 ∷ 0 ∷ 2 ∷ 0 ∷ 0 ∷ 0 ∷ 0 ∷ 0 ∷ 0 ∷ 0 ∷ 0 ∷ 0 ∷ 224 ∷ 63 ∷ 0 ∷ 0 ∷ 0 ∷ 0 ∷ 0 ∷ 0 ∷ 240 ∷ 63 ∷ 0 ∷ 0 ∷ 0 ∷ 0 ∷ 0 ∷ 0 ∷ 0 ∷ 64
+    ∷ 2 ∷ 1 ∷ 4 ∷ 3 ∷ 2 ∷ 1 ∷ 0 ∷ 0 ∷ 0 ∷ 0 ∷ 0 ∷ 0 ∷ 20 ∷ 64 ∷ 0 ∷ 0 ∷ 0 ∷ 0 ∷ 0 ∷ 0 ∷ 24 ∷ 64 ∷ 0 ∷ 0 ∷ 0 ∷ 0 ∷ 0 ∷ 0 ∷ 28 ∷ 64 ∷ [])
+    ≡ record { node = 1; step = 2; G = half; t0 = one64; t1 = two64 } ∷ record { node = 258; step = 16_909_060; G = five; t0 = six; t1 = seven } ∷ []
+unfolding opened
+trips-are-read = refl

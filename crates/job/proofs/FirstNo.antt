@@ -81,6 +81,6 @@ number-all p z [] job h = z
 number-all p z (q ∷ qs) job h =
     let parts = both (p (q .0)) (eachNumber p qs) h in cond-all (λ (n : ℕ). p n ≡ true) (q .1 job) (number-all p z qs job (parts .1)) (parts .0)
 
-pub refusal-most : (job : List ℕ) → refusal job ≤ 50
+pub refusal-most : (job : List ℕ) → refusal job ≤ 53
 unfolding refusal questions pairQuestions pipeQuestions nodeQuestions valueQuestions
-refusal-most job = leb-true _ _ (number-all (λ n. leb n 50) refl questions job refl)
+refusal-most job = leb-true _ _ (number-all (λ n. leb n 53) refl questions job refl)

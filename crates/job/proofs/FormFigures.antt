@@ -46,10 +46,10 @@ pub slow-closure-is-read :
 unfolding opened
 slow-closure-is-read = let counted = counts-are-read in (refl, refl, refl, refl, refl)
 
--- Question 2: four pairs, and seven, of a file that would hold them; six pairs in a file of 53 bytes. One of 54 bytes goes on to question 3, as do six
+-- Question 2: four pairs, and eight, of a file that would hold them; six pairs in a file of 53 bytes. One of 54 bytes goes on to question 3, as do six
 -- pairs whose first table begins at 46, five whose first begins at 54, and a sixth table that begins 2 bytes before the fifth ends.
 pub pairs-are-judged :
-    (refusal (set jobQ 0 4) ≡ 2) × (refusal (set jobQLongCounts 0 7) ≡ 2) × (refusal (take 53 jobQLongCounts) ≡ 2) × (refusal (take 54 jobQLongCounts) ≡ 3)
+    (refusal (set jobQ 0 4) ≡ 2) × (refusal (set jobQLongCounts 0 8) ≡ 2) × (refusal (take 53 jobQLongCounts) ≡ 2) × (refusal (take 54 jobQLongCounts) ≡ 3)
     × (refusal (set jobQ 0 6) ≡ 3) × (refusal (set jobQLongCounts 0 5) ≡ 3) × (refusal (set (set jobQLongCounts 46 220) 50 6) ≡ 3)
 unfolding opened
 pairs-are-judged = (refl, refl, refl, refl, refl, refl, refl)

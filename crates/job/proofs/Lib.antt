@@ -1,6 +1,7 @@
 pub mod AllDefinitions
 pub mod Figures
 pub mod FormFigures
+pub mod TripFigures
 pub mod WalkLaws
 pub mod Places
 pub mod FirstNo
@@ -9,3 +10,4 @@ pub mod NodeLaws
 pub mod SectionLaws
 pub mod Accepted
 pub mod AcceptedValues
+pub mod AcceptedTrips

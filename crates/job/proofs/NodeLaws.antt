@@ -1,11 +1,11 @@
 -- What the yes to questions 10, 50, 11 and 15 says of a node, and the value that its schedule has at a step. Assumes nothing.
 use mathlib.Core.Path.{_≡_, refl, sym, ap, _∙_}
-use mathlib.Core.Bool.{Bool, true, false, cond, _&&_, _||_}
+use mathlib.Core.Bool.{Bool, true, false, cond, not, _&&_, _||_}
 use mathlib.Core.List.{List}
 use Prim.Native.Nat.{ℕ, _+_, _-_, _*_, _<_, _≤_, min}
 use native.Mathlib.Omega.{arith}
-use lib.ListN.{length}
-use lib.Dec.{leb, ltb}
+use lib.ListN.{length, getD}
+use lib.Dec.{leb, ltb, eqb}
 use lib.Ieee.{Float}
 use lib.Ieee.Scale.{finite}
 use borrow.Author.Tests.{leb-true, eqb-true, eq-eqb, ne-eqb, lt-ltb, le-ltb}
@@ -67,8 +67,10 @@ unfolding kindsFit kindFits countFits scheduleCount
 count-least nodes counts h f node l = go (isEmpty counts) refl
   where
     go : (z : Bool) → isEmpty counts ≡ z → 1 ≤ cond z (countByte nodes node) (longCount counts node)
-    go true e = leb-true _ _ (rw e at (both (leb (kindNumber nodes node) 3) _ (all-at (kindFits nodes counts) node (nodeCount nodes) h l) .1))
-    go false e = leb-true _ _ (both (leb 1 (longCount counts node)) _ (counts-whole nodes counts f e .each node l) .0)
+    go true e =
+        let asked = both (leb (kindNumber nodes node) 3) (not (isEmpty counts) || leb 1 (countByte nodes node)) (all-at (kindFits nodes counts) node (nodeCount nodes) h l) .1 in
+        leb-true _ _ (rw e at asked)
+    go false e = leb-true _ _ (both (leb 1 (longCount counts node)) (eqb (countByte nodes node) 0) (counts-whole nodes counts f e .each node l) .0)
 
 -- ---- schedules
 
@@ -131,7 +133,9 @@ module _ (nodes counts schedules : List ℕ) (right : schedulesRight nodes count
 -- the value at step n: entry n - 1, counted from 0, and the last after it
 pub entry-of : (count : ℕ) (f : ℕ → Float) (n i : ℕ) → 1 ≤ n → 1 ≤ count → i ≡ min n count - 1 → entryAt (listed count f) n ≡ f i
 unfolding entryAt
-entry-of count f n i l m e = rw (length-listed count f, ← e) (getD-listed count f i zero64 (omega arith))
+entry-of count f n i l m e =
+    let place : min n (length (listed count f)) - 1 ≡ i = rw (length-listed count f) (sym e) in
+    ap (λ k. getD (listed count f) k zero64) place ∙ getD-listed count f i zero64 (omega arith)
 
 -- a value read from the entries of a node's schedule is the record's
 pub scheduled-is :

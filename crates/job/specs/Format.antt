@@ -6,7 +6,7 @@ use lib.ListN.{length, take, drop}
 use lib.Dec.{ltb, eqb}
 use lib.Ieee.{Float}
 use Rattle.fields.specs.Bytes.{u8At, u16At, u32At, f64At}
-use Rattle.job.specs.Job.{Pipe, Kind, junction, reservoir, valve, pump, ScheduledNode, Initial, Job}
+use Rattle.job.specs.Job.{Pipe, Kind, junction, reservoir, valve, pump, ScheduledNode, Initial, Trip, Job}
 use Rattle.loops.specs.Loops.{listed}
 
 -- ---- "u16 count of pairs, u32 steps for the listing, then pairs (u32 offset, u32 length), sorted by offset"
@@ -17,14 +17,14 @@ pairCount job = u16At job 0
 abbrev pub listingSteps : List ℕ → ℕ
 listingSteps job = u32At job 2
 
--- the least and the greatest number of pairs that a job may have. Request 3: "A job may have six pairs."
+-- the least and the greatest number of pairs that a job may have. Request 3: "A job may have six pairs." Request 7: "A job may have seven pairs."
 abbrev pub leastPairs : ℕ
 leastPairs = 5
 
 abbrev pub mostPairs : ℕ
-mostPairs = 6
+mostPairs = 7
 
--- where n pairs end: at 46 where there are five, at 54 where there are six. The pair after them begins there.
+-- where n pairs end: at 46 where there are five, at 54 where there are six, at 62 where there are seven. The pair after them begins there.
 abbrev pub pairsEnd : ℕ → ℕ
 pairsEnd n = n * 8 + 6
 
@@ -38,7 +38,7 @@ lengthOf job k = u32At job (pairsEnd k + 4)
 unfoldable pub table : List ℕ → ℕ → List ℕ
 table job k = cond (ltb k (pairCount job)) (take (lengthOf job k) (drop (offsetOf job k) job)) []
 
--- tables 1 to 6
+-- tables 1 to 7
 abbrev pub pipeTable : List ℕ → List ℕ
 pipeTable job = table job 0
 
@@ -56,6 +56,9 @@ scheduleTable job = table job 4
 
 abbrev pub countTable : List ℕ → List ℕ
 countTable job = table job 5
+
+abbrev pub tripTable : List ℕ → List ℕ
+tripTable job = table job 6
 
 -- ---- "1. Pipes, 12 bytes: u8 start node, u8 finish node, u16 reaches, f64 S."
 
@@ -156,6 +159,23 @@ nodeIn nodes counts schedules node = record { kind = kindIn nodes node; schedule
 unfoldable pub nodesIn : List ℕ → List ℕ → List ℕ → List ScheduledNode
 nodesIn nodes counts schedules = listed (nodeCount nodes) (nodeIn nodes counts schedules)
 
+-- ---- request 7: "Table 7, 30 bytes a record, names a pump: u16 node, u32 trip step, f64 G, t0, t1."
+
+abbrev pub tripCount : List ℕ → ℕ
+tripCount trips = length trips / 30
+
+abbrev pub tripIn : List ℕ → ℕ → Trip
+tripIn trips i = record {
+  node = u16At trips (i * 30);
+  step = u32At trips (i * 30 + 2);
+  G = f64At trips (i * 30 + 6);
+  t0 = f64At trips (i * 30 + 14);
+  t1 = f64At trips (i * 30 + 22);
+}
+
+unfoldable pub tripsIn : List ℕ → List Trip
+tripsIn trips = listed (tripCount trips) (tripIn trips)
+
 -- ---- the job that the bytes hold
 
 unfoldable pub jobOf : List ℕ → Job
@@ -165,4 +185,5 @@ jobOf job =
       nodes = nodesIn (nodeTable job) (countTable job) (scheduleTable job);
       friction = frictionIn (frictionTable job);
       initial = initialIn (initialTable job);
+      trips = tripsIn (tripTable job);
     }

@@ -31,12 +31,21 @@ pub record Initial : Type 0 where
   pub flow : Float
   pub floor : Float
 
--- friction: R of each reach, pipe by pipe; initial: of each section, numbered through all pipes from 0
+-- What table 7 gives for a pump: "u16 node, u32 trip step, f64 G, t0, t1, the three constants of its rundown".
+pub record Trip : Type 0 where
+  pub node : ℕ
+  pub step : ℕ
+  pub G : Float
+  pub t0 : Float
+  pub t1 : Float
+
+-- friction: R of each reach, pipe by pipe; initial: of each section, numbered through all pipes from 0; trips: of each pump that fails
 pub record Job : Type 0 where
   pub pipes : List Pipe
   pub nodes : List ScheduledNode
   pub friction : List Float
   pub initial : List Initial
+  pub trips : List Trip
 
 -- ---- the layout: each pipe with the numbers of its first section and of its first reach, counted through all pipes
 

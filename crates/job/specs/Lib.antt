@@ -7,3 +7,4 @@ pub mod Walk
 pub mod JobQ
 pub mod OwnJobs
 pub mod SixPairs
+pub mod SevenPairs

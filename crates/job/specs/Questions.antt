@@ -1,4 +1,4 @@
--- "Questions 1 to 15 go to every call that takes a job", and question 50 of request 3 with them. Each is a number and a test of the bytes.
+-- "Questions 1 to 15 go to every call that takes a job", and questions 50 of request 3 and 53 of request 7 with them. Each is a number and a test of the bytes.
 -- Definitions only.
 use mathlib.Core.Path.{_≡_}
 use mathlib.Core.Bool.{Bool, cond, not, _&&_, _||_}
@@ -11,12 +11,16 @@ use lib.Ieee.Scale.{finite}
 use Rattle.fields.specs.Real.{zero64, one64}
 use Rattle.fields.specs.Bytes.{zeroBitsAt}
 use Rattle.loops.specs.Loops.{allBelow}
-use Rattle.job.specs.Job.{Pipe, Initial, sectionsOf}
-use Rattle.job.specs.Format.{pairCount, listingSteps, leastPairs, mostPairs, pairsEnd, offsetOf, lengthOf, pipeTable, nodeTable, frictionTable, initialTable, scheduleTable, countTable, pipeCount, pipeIn, pipesIn, reachesOf, nodeCount, kindNumber, countByte, aOf, bOf, cOf, rIn, sectionIn, isEmpty, longCount, scheduleCount, placeOf, entryIn}
+use Rattle.job.specs.Job.{Pipe, Initial, Trip, sectionsOf}
+use Rattle.job.specs.Format.{pairCount, listingSteps, leastPairs, mostPairs, pairsEnd, offsetOf, lengthOf, pipeTable, nodeTable, frictionTable, initialTable, scheduleTable, countTable, tripTable, pipeCount, pipeIn, pipesIn, reachesOf, nodeCount, kindNumber, countByte, aOf, bOf, cOf, rIn, sectionIn, isEmpty, longCount, scheduleCount, placeOf, entryIn, tripCount, tripIn}
 
 -- "not below zero", which -0 is
 abbrev pub notBelowZero : Float → Bool
 notBelowZero x = not (lt x zero64)
+
+-- "finite and not below zero"
+abbrev pub finiteNotBelowZero : Float → Bool
+finiteNotBelowZero x = finite x && notBelowZero x
 
 -- ---- the pairs
 
@@ -90,6 +94,23 @@ eachCountFits nodes counts = allBelow (countFits nodes counts) (nodeCount nodes)
 unfoldable pub countsFit : List ℕ → List ℕ → Bool
 countsFit nodes counts = isEmpty counts || hasLength (nodeCount nodes * 2) counts && eachCountFits nodes counts
 
+-- 53 "if table 7 is not whole, a node isn't a pump or stands in two records, or a constant isn't finite or is below zero"
+unfoldable pub isPump : List ℕ → ℕ → Bool
+isPump nodes node = ltb node (nodeCount nodes) && eqb (kindNumber nodes node) 3
+
+-- no record before record i names its node
+unfoldable pub firstOfNode : List ℕ → ℕ → Bool
+firstOfNode trips i = allBelow (λ k. not (eqb (tripIn trips k .node) (tripIn trips i .node))) i
+
+unfoldable pub rundownFits : Trip → Bool
+rundownFits t = finiteNotBelowZero (t .G) && finiteNotBelowZero (t .t0) && finiteNotBelowZero (t .t1)
+
+unfoldable pub tripFits : List ℕ → List ℕ → ℕ → Bool
+tripFits nodes trips i = isPump nodes (tripIn trips i .node) && firstOfNode trips i && rundownFits (tripIn trips i)
+
+unfoldable pub tripsFit : List ℕ → List ℕ → Bool
+tripsFit nodes trips = eqb (length trips % 30) 0 && allBelow (tripFits nodes trips) (tripCount trips)
+
 -- 11 "Are a, b, c finite, valve a and pump a, b not below zero, fields the kind doesn't name all zero bits?"
 unfoldable pub allFinite : List ℕ → ℕ → Bool
 allFinite nodes node = finite (aOf nodes node) && finite (bOf nodes node) && finite (cOf nodes node)
@@ -136,7 +157,7 @@ nodesMet pipes count = allBelow (hasEnd pipes) count
 
 -- 13 "Has table 3 the right length, each R finite and not below zero?"
 unfoldable pub rFits : List ℕ → ℕ → Bool
-rFits friction r = finite (rIn friction r) && notBelowZero (rIn friction r)
+rFits friction r = finiteNotBelowZero (rIn friction r)
 
 unfoldable pub frictionFits : List ℕ → Bool
 frictionFits friction = allBelow (rFits friction) (length friction / 8)
@@ -197,6 +218,7 @@ unfoldable pub nodeQuestions : List Question
 nodeQuestions =
     (10, λ job. kindsFit (nodeTable job) (countTable job))
     ∷ (50, λ job. countsFit (nodeTable job) (countTable job))
+    ∷ (53, λ job. tripsFit (nodeTable job) (tripTable job))
     ∷ (11, λ job. figuresFit (nodeTable job))
     ∷ (12, λ job. nodesMet (pipeTable job) (nodeCount (nodeTable job)))
     ∷ []

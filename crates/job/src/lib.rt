@@ -6,5 +6,6 @@ pub mod pipes;
 pub mod questions;
 pub mod schedules;
 pub mod tables;
+pub mod trips;
 pub mod values;
 pub mod walk;

@@ -1,6 +1,7 @@
 // The tables of a job that questions 1 to 4 let pass, each as its own part of the file.
 ghost use mathlib.Core.Path.{_≡_};
-ghost use Rattle.job.specs.Format.{pipeTable, nodeTable, frictionTable, initialTable, scheduleTable, countTable};
+ghost use Rattle.job.specs.Format.{pipeTable, nodeTable, frictionTable, initialTable, scheduleTable};
+ghost use Rattle.job.specs.Format.{countTable, tripTable};
 ghost use Rattle.job.specs.Questions.{pairQuestions, firstNo};
 
 // Table 1
@@ -49,4 +50,12 @@ pub fn counts(job: &[u8]) -> &[u8]
     ensures { λ r. ⌜ now r ≡ countTable (now (job .entry)) ⌝ }
 {
     super::pairs::optional_table(job, 5)
+}
+
+// Table 7
+pub fn trips(job: &[u8]) -> &[u8]
+    requires { ⌜ firstNo pairQuestions (now job) ≡ 0 ⌝ }
+    ensures { λ r. ⌜ now r ≡ tripTable (now (job .entry)) ⌝ }
+{
+    super::pairs::optional_table(job, 6)
 }

@@ -1,4 +1,4 @@
-// Questions 10, 50, 11 and 12: the table of nodes, and the counts of their schedules.
+// Questions 10, 50, 53, 11 and 12: the table of nodes, the counts of their schedules, and the trips of the pumps.
 ghost use mathlib.Core.Path.{_≡_};
 ghost use mathlib.Core.Bool.{true};
 ghost use Prim.Native.Nat.{_+_, _*_, _<_, _≤_};
@@ -14,6 +14,8 @@ use job::nodes::kind;
 use job::questions::decide;
 use job::schedules::count_byte;
 use job::schedules::long_count;
+
+mod trips;
 
 // 10, of a node: is the kind 0 to 3, and the byte at least 1 where it counts?
 fn kind_fits(nodes: &[u8], counts: &[u8], node: usize) -> bool
@@ -204,7 +206,7 @@ fn nodes_met(pipes: &[u8], count: usize) -> bool
     true
 }
 
-// The first of questions 10, 50, 11 and 12 with a no, or 0.
+// The first of questions 10, 50, 53, 11 and 12 with a no, or 0.
 pub fn first_no(job: &[u8]) -> usize
     requires { ⌜ firstNo pairQuestions (now job) ≡ 0 ⌝ }
     ensures { λ r. ⌜ r ≡ firstNo nodeQuestions (now (job .entry)) ⌝ }
@@ -212,10 +214,13 @@ pub fn first_no(job: &[u8]) -> usize
     let pipes = job::tables::pipes(job);
     let nodes = job::tables::nodes(job);
     let counts = job::tables::counts(job);
+    let trips = job::tables::trips(job);
     let kinds = kinds_fit(nodes, counts);
     let whole_counts = counts_fit(nodes, counts);
+    let whole_trips = trips::trips_fit(nodes, trips);
     let figures = figures_fit(nodes);
     let met = nodes_met(pipes, nodes.len() / 26);
     let from_11 = decide(figures, 11, decide(met, 12, 0));
-    decide(kinds, 10, decide(whole_counts, 50, from_11))
+    let from_53 = decide(whole_trips, 53, from_11);
+    decide(kinds, 10, decide(whole_counts, 50, from_53))
 }

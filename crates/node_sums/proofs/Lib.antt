@@ -1,2 +1,3 @@
 pub mod AlongRows
 pub mod NodeSums
+pub mod OverNodes

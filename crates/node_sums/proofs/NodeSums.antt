@@ -24,7 +24,7 @@ use Rattle.pipe_layout.proofs.Acceptance.{laid-all, within}
 use Rattle.node_sums.specs.FromRows.{alongRows, constantSums, nodeSums}
 
 -- a list given by a function, with one entry stored
-set-listed : {A : Type 0} (n : ℕ) (f : ℕ → A) (i : ℕ) (v : A) → set (listed n f) i v ≡ listed n (λ k. cond (eqb i k) v (f k))
+pub set-listed : {A : Type 0} (n : ℕ) (f : ℕ → A) (i : ℕ) (v : A) → set (listed n f) i v ≡ listed n (λ k. cond (eqb i k) v (f k))
 unfolding listed
 set-listed zero f i v = refl
 set-listed (suc n) f zero v = ap (λ r. v ∷ r) (listed-cong n _ _ (λ k _. rw (eqb·zero-suc k)))

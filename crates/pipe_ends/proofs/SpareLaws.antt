@@ -9,13 +9,13 @@ use lib.ListN.{length, getD, set, drop, length-set}
 use lib.Seq.{getD-set-same, getD-set-other, getD-drop, drop-drop, drop-set-lt}
 use lib.Ieee.{Float, nan}
 use Rattle.wave.specs.declared.HeadFlow.{HeadFlow}
+use Rattle.wave.specs.declared.Node.{Node}
 use Rattle.job.specs.Job.{Laid}
 use Rattle.job.specs.Questions.{Accepted}
 use Rattle.recurrence.specs.Step.{kAtStart, kAtFinish, atStart, atFinish}
 use Rattle.pipe_layout.specs.Layout.{LaidAt}
 use Rattle.pipe_layout.proofs.Acceptance.{within}
-use Rattle.node_sums.specs.FromRows.{alongRows, nodeHeads}
-use Rattle.node_heads.proofs.NodeHeads.{head-read}
+use Rattle.node_sums.specs.FromRows.{alongRows, OverNodes, nodeHeadAt}
 use Rattle.spare_ends.specs.Spare.{endIn, withEnds, EachPipe, KTo, KIn, startBy, finishBy, EndsByKTo, EndsByK, EndsIn}
 
 -- ---- laws of any list, and of any fact of the first numbers
@@ -170,11 +170,11 @@ module _ (job : List ℕ) (nodes before : List Float) where
 -- ---- the ends by K and the heads of the nodes are the recurrence's
 
 pub ends-in :
-    (job : List ℕ) (ok : Accepted job) (v : ℕ → Float) (heads flows : List Float) {nodes before after : List Float}
-    → nodes ≡ nodeHeads job v heads flows → KIn job heads flows before → EndsByK job nodes before after → EndsIn job v heads flows after
+    (job : List ℕ) (ok : Accepted job) (nodes : ℕ → Node) (heads flows : List Float) {row before after : List Float}
+    → OverNodes job (nodeHeadAt job nodes heads flows) row → KIn job heads flows before → EndsByK job row before after → EndsIn job nodes heads flows after
 unfolding atStart atFinish
-ends-in job ok v heads flows is ks ends =
-    let head = head-read job ok heads flows v is in
+ends-in job ok nodes heads flows is ks ends =
+    let head = is .at in
     record {
       at-start = λ p l at.
           let here = within job ok p l at in

@@ -6,7 +6,8 @@ ghost use lib.ListN.{length, drop};
 ghost use Rattle.whole_root.specs.Table.{IsTable};
 ghost use Rattle.job.specs.Format.{pipeTable, pipeCount};
 ghost use Rattle.job.specs.Questions.{Accepted};
-ghost use Rattle.node_sums.specs.FromRows.{Lent, valueIn, constantSums, nodeSums};
+ghost use Rattle.node_sums.specs.FromRows.{Lent, OverNodes, valueIn};
+ghost use Rattle.node_sums.specs.FromRows.{constantSums, nodeSums, endNodes, inflowAt};
 ghost use Rattle.spare_ends.specs.Spare.{KIn, EndsByK, EndsIn};
 use job::walk::Walk;
 use wave::Sums;
@@ -47,8 +48,8 @@ fn keep_k(
 }
 
 // The new head and flow at both ends of each pipe, from K in the spare; nodes has H of each node.
-fn ends_from_k(job: &[u8], nodes: &[f64; 32], spare: &mut [f64])
-    requires { ⌜ (Accepted (now job))
+fn ends_from_k(job: &[u8], nodes: &[f64], spare: &mut [f64])
+    requires { ⌜ (Accepted (now job)) × (32 ≤ length (now nodes))
         × (pipeCount (pipeTable (now job)) * 4 ≤ length (now spare)) ⌝ }
     ensures { λ _. ⌜ (let end = pipeCount (pipeTable (now (job .entry))) * 4 in
         (EndsByK (now (job .entry)) (now (nodes .entry)) (now (spare .entry)) (now (spare .exit)))
@@ -63,24 +64,32 @@ fn ends_from_k(job: &[u8], nodes: &[f64; 32], spare: &mut [f64])
     }
 }
 
-// The new head and flow at both ends of each pipe into the spare. `roots` is the table that starts a root,
-// `values` has v of each node at the step, `constant` the sums of the nodes before any K.
+// The new head and flow at both ends of each pipe into the spare, and the inflow of each node into `entering`; `nodes`
+// holds the nodes' heads meanwhile. `roots` is the table that starts a root, `values` has v of each node at the step,
+// `constant` the sums of the nodes before any K.
 pub fn write_ends(
     roots: &[u16; 768],
     job: &[u8],
-    values: [f64; 32],
+    values: &[f64],
     constant: [Sums; 32],
     heads: &[f64],
     flows: &[f64],
+    nodes: &mut [f64],
+    entering: &mut [f64],
     spare: &mut [f64],
 )
     requires { ⌜ (IsTable (now roots)) × (Lent (now job) (now heads) (now flows))
         × (constant ≡ constantSums (now job)) × (pipeCount (pipeTable (now job)) * 4 ≤ length (now spare)) ⌝ }
+    requires { ⌜ (32 ≤ length (now values)) × (32 ≤ length (now nodes)) × (32 ≤ length (now entering)) ⌝ }
     ensures { λ _. ⌜ (let end = pipeCount (pipeTable (now (job .entry))) * 4 in
-        (EndsIn (now (job .entry)) (valueIn values) (now (heads .entry)) (now (flows .entry)) (now (spare .exit)))
+        let v = valueIn (now (values .entry)) in
+        (OverNodes (now (job .entry)) (inflowAt (now (job .entry)) v (now (heads .entry)) (now (flows .entry)))
+        (now (entering .exit)))
+        × (EndsIn (now (job .entry)) (endNodes (now (job .entry)) v (now (heads .entry)) (now (flows .entry)))
+        (now (heads .entry)) (now (flows .entry)) (now (spare .exit)))
         × (drop end (now (spare .exit)) ≡ drop end (now (spare .entry)))) ⌝ }
 {
     let sums = keep_k(job, constant, heads, flows, spare);
-    let nodes = node_heads::node_heads(roots, job, values, sums);
-    ends_from_k(job, &nodes, spare);
+    node_heads::node_heads(roots, job, values, sums, nodes, entering);
+    ends_from_k(job, nodes, spare);
 }

@@ -1,4 +1,4 @@
-// The questions put to every call that takes a job: 1 to 15, and 50 after 10.
+// The questions put to every call that takes a job: 1 to 15, with 50 and 53 after 10.
 ghost use mathlib.Core.Path.{_≡_};
 ghost use Rattle.job.specs.Questions.{refusal};
 ghost use Rattle.reader.specs.Answer.{paperRead, readAnswer};
@@ -28,7 +28,7 @@ fn first_no(job: &[u8]) -> usize
     value_questions::first_no(job)
 }
 
-// Questions 1 to 15, with 50: the number of the first no, or what the job holds.
+// Questions 1 to 15, with 50 and 53: the number of the first no, or what the job holds.
 pub fn read(job: &[u8]) -> Read
     ensures { λ r. ⌜ paperRead r ≡ readAnswer (now (job .entry)) ⌝ }
 {

@@ -14,7 +14,7 @@ use job::questions::decide;
 // The least and the greatest number of pairs that a job may have.
 const LEAST_PAIRS: usize = 5;
 
-const MOST_PAIRS: usize = 6;
+const MOST_PAIRS: usize = 7;
 
 // 1
 fn size_fits(job: &[u8]) -> bool

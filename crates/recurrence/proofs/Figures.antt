@@ -30,8 +30,8 @@ row-figures = record { in-order = refl; start = refl; one-step = refl; five-step
 pub refusal-figures : RefusalFigures
 unfolding opened
 refusal-figures = record {
-  short-run-on = each _ refl refl refl refl refl;
-  short-start = each _ refl refl refl refl refl;
+  short-run-on = each _ refl refl refl refl refl refl refl;
+  short-start = each _ refl refl refl refl refl refl refl;
   just-enough = refl;
   long-pipe = refl;
   two-short = refl;
@@ -46,6 +46,8 @@ refusal-figures = record {
   flow-not-finite = refl;
   highest-not-finite = refl;
   lowest-not-finite = refl;
+  speed-not-finite = refl;
+  inflow-not-finite = refl;
   past-the-count = refl;
   fifteen-before-20 = refl;
   fifteen-before-20-start = refl;

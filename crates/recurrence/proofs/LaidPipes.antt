@@ -74,6 +74,13 @@ unfolding laidFrom
 laid-length b r [] = refl
 laid-length b r (q ∷ qs) = ap suc (laid-length (b + suc (q .reaches)) (r + q .reaches) qs)
 
+-- each pipe is laid
+laid-from-some : (b r : ℕ) (qs : List Pipe) (p : ℕ) (q : Pipe) → getElem? qs p ≡ some q → (l : Laid) × (getElem? (laidFrom b r qs) p ≡ some l) × (l .pipe ≡ q)
+unfolding laidFrom
+laid-from-some b r [] p q e = let z : _≡_ {A = ℕ} 0 1 = cc in absurd (omega arith)
+laid-from-some b r (o ∷ qs) zero q e = (record { pipe = o; firstSection = b; firstReach = r }, refl, cc)
+laid-from-some b r (o ∷ qs) (suc p) q e = laid-from-some (b + suc (o .reaches)) (r + o .reaches) qs p q e
+
 -- ---- a laid pipe's section i is found there
 
 found-from : (b r : ℕ) (qs : List Pipe) (p : ℕ) (l : Laid) (i : ℕ) → getElem? (laidFrom b r qs) p ≡ some l → i ≤ l .pipe .reaches
@@ -95,6 +102,10 @@ module _ (j : Job) where
   pub laid-located : (p : ℕ) (l : Laid) (i : ℕ) → getElem? (laid j) p ≡ some l → i ≤ l .pipe .reaches → located (laid j) (l .firstSection + i) ≡ place l i
   unfolding laid
   laid-located p l i e h = found-from 0 0 (j .pipes) p l i e h
+
+  pub laid-some : (p : ℕ) (q : Pipe) → getElem? (j .pipes) p ≡ some q → (l : Laid) × (getElem? (laid j) p ≡ some l) × (l .pipe ≡ q)
+  unfolding laid
+  laid-some p q e = laid-from-some 0 0 (j .pipes) p q e
 
   pub laid-spanned : (p : ℕ) (l : Laid) → getElem? (laid j) p ≡ some l → Spanned 0 0 (j .pipes) p l
   unfolding laid

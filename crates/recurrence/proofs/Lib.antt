@@ -1,7 +1,9 @@
 pub mod AllDefinitions
 pub mod DetailFigures
+pub mod DriveFigures
 pub mod EachRow
 pub mod Figures
+pub mod PowerFailure
 pub mod LaidPipes
 pub mod LocalStep
 pub mod Runs
@@ -12,6 +14,7 @@ pub mod TiedCalls
 pub mod InRows
 pub mod GoesOn
 pub mod Sharp
+pub mod SharpInflow
 pub mod SameBits
 pub mod RowLaws
 pub mod StepLaws

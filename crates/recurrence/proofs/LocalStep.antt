@@ -60,15 +60,19 @@ module _ (ls : List Laid) (w x : AlongPipes) (nodes others : ℕ → Node) (near
   unfolding kAtFinish
   finish-k p l s e q n = let some-reach = c .whole p l e in above finishK p l (pred (l .pipe .reaches)) s e (omega arith) (omega arith) n
 
-  sums-alike : (y s : ℕ) → near s → EndAt ls y s → sumsAt ls w y ≡ sumsAt ls x y
+  -- a node's sums, where each of its ends is near
+  pub sums-near : (y : ℕ) → ((t : ℕ) → EndAt ls y t → near t) → sumsAt ls w y ≡ sumsAt ls x y
   unfolding sumsAt
-  sums-alike y s n a =
+  sums-near y n =
       let e =
       ends-alike (kAtStart w) (kAtStart x) (kAtFinish w) (kAtFinish x) y ls record {
-        starts = λ p l e q. start-k p l (l .firstSection) e refl (c .across y s _ n a (startsAt p l e q refl));
-        finishes = λ p l e q. finish-k p l (l .firstSection + l .pipe .reaches) e refl (c .across y s _ n a (finishesAt p l e q refl));
+        starts = λ p l e q. start-k p l (l .firstSection) e refl (n _ (startsAt p l e q refl));
+        finishes = λ p l e q. finish-k p l (l .firstSection + l .pipe .reaches) e refl (n _ (finishesAt p l e q refl));
       } in
       rw e
+
+  pub sums-alike : (y s : ℕ) → near s → EndAt ls y s → sumsAt ls w y ≡ sumsAt ls x y
+  sums-alike y s n a = sums-near y (λ t b. c .across y s t n a b)
 
   head-alike : (y s : ℕ) → near s → EndAt ls y s → headAt ls w nodes y ≡ headAt ls x others y
   unfolding headAt

@@ -1,6 +1,6 @@
 -- The lent rows, each by its name: question 20, what they hold, and what a call leaves in them. Assumes nothing.
 -- enough-each, each-enough   question 20
--- state-at, holds-point, holds-state, state-held   the state in the rows
+-- state-at, drive-at, holds-point, holds-drive, holds-state, state-held   the state in the rows
 -- rows-hold, row-left   the rows that a call leaves
 use mathlib.Core.Path.{_≡_, refl, sym, ap, ap₂, _∙_}
 use mathlib.Core.Bool.{Bool, true, _&&_, true≢false}
@@ -15,8 +15,8 @@ use borrow.Author.Tests.{leb-true, le-leb}
 use Rattle.fields.specs.Real.{zero64}
 use Rattle.loops.specs.Loops.{listed}
 use Rattle.job.specs.Job.{Job, sections}
-use Rattle.recurrence.specs.State.{Point, State, noPoint, pointAt}
-use Rattle.recurrence.specs.Calls.{Row, heads, flows, highest, lowest, allRows, Rows, inUse, enoughLent, pointIn, stateIn, holds, rowsOf}
+use Rattle.recurrence.specs.State.{Point, Drive, State, noPoint, noDrive, pointAt, driveAt}
+use Rattle.recurrence.specs.Calls.{Row, heads, flows, highest, lowest, speeds, inflows, allRows, Rows, inUse, enoughLent, pointIn, driveIn, stateIn, holds, rowsOf}
 use Rattle.recurrence.specs.Lent.{Holds}
 use Rattle.loops.proofs.Tests.{both}
 use Rattle.loops.proofs.Listed.{take-listed, length-listed, getD-listed, map-listed}
@@ -59,38 +59,60 @@ module _ (j : Job) (r : Rows) where
   unfolding stateIn pointAt
   state-at s h = getD-listed (sections j) (pointIn r) s noPoint h
 
--- a row that holds a field of the points, read entry by entry
-field-at : (n : ℕ) (f : Point → Float) (row : List Float) (ps : List Point) → f noPoint ≡ zero64 → take n row ≡ map f ps
-    → (s : ℕ) → s < n → getD row s zero64 ≡ f (getD ps s noPoint)
-field-at n f row ps z h s l = sym (getD-take n row s zero64 l) ∙ ap (λ r. getD r s zero64) h ∙ rw (← z) (List·getD-map f ps s noPoint)
+  pub drive-at : (y : ℕ) → y < length (j .nodes) → driveAt (stateIn j r) y ≡ driveIn r y
+  unfolding stateIn driveAt
+  drive-at y h = getD-listed (length (j .nodes)) (driveIn r) y noDrive h
+
+-- a row that holds a field of the points or drives, read entry by entry
+field-at : {A : Type 0} (none : A) (n : ℕ) (f : A → Float) (row : List Float) (ps : List A) → f none ≡ zero64 → take n row ≡ map f ps
+    → (s : ℕ) → s < n → getD row s zero64 ≡ f (getD ps s none)
+field-at none n f row ps z h s l = sym (getD-take n row s zero64 l) ∙ ap (λ r. getD r s zero64) h ∙ rw (← z) (List·getD-map f ps s none)
+
+-- a list that is read entry by entry from elsewhere
+listed-is : {A : Type 0} (none : A) (n : ℕ) (f : ℕ → A) (ps : List A) → length ps ≡ n → ((s : ℕ) → s < n → f s ≡ getD ps s none) → listed n f ≡ ps
+listed-is none n f ps long h =
+    ext-getD none (listed n f) ps (length-listed n f ∙ sym long)
+    (λ s l. let q : s < n = omega (arith, length-listed n f) in getD-listed n f s none q ∙ h s q)
 
 module _ (j : Job) (r : Rows) (st : State) (h : Holds j r st) (sized : Sized j st) where
   pub holds-point : (s : ℕ) → s < sections j → pointIn r s ≡ pointAt st s
   unfolding pointIn pointAt noPoint holds
   holds-point s l =
-      let a = field-at (sections j) (λ p. p .head) (r heads) (st .points) refl (h heads refl) s l in
-      let b = field-at (sections j) (λ p. p .flow) (r flows) (st .points) refl (h flows refl) s l in
-      let c = field-at (sections j) (λ p. p .highest) (r highest) (st .points) refl (h highest refl) s l in
-      let d = field-at (sections j) (λ p. p .lowest) (r lowest) (st .points) refl (h lowest refl) s l in
+      let n = sections j in
+      let a = field-at noPoint n (λ p. p .head) (r heads) (st .points) refl (h heads refl) s l in
+      let b = field-at noPoint n (λ p. p .flow) (r flows) (st .points) refl (h flows refl) s l in
+      let c = field-at noPoint n (λ p. p .highest) (r highest) (st .points) refl (h highest refl) s l in
+      let d = field-at noPoint n (λ p. p .lowest) (r lowest) (st .points) refl (h lowest refl) s l in
       λ i. record { head = a i; flow = b i; highest = c i; lowest = d i }
 
+  pub holds-drive : (y : ℕ) → y < length (j .nodes) → driveIn r y ≡ driveAt st y
+  unfolding driveIn driveAt noDrive holds
+  holds-drive y l =
+      let n = length (j .nodes) in
+      let a = field-at noDrive n (λ d. d .speed) (r speeds) (st .drives) refl (h speeds refl) y l in
+      let b = field-at noDrive n (λ d. d .inflow) (r inflows) (st .drives) refl (h inflows refl) y l in
+      λ i. record { speed = a i; inflow = b i }
+
   pub holds-state : stateIn j r ≡ st
-  unfolding stateIn pointAt
+  unfolding stateIn pointAt driveAt
   holds-state =
-      ap (λ (x : List Point). record { points = x })
-      (ext-getD noPoint (listed (sections j) (pointIn r)) (st .points) (length-listed (sections j) (pointIn r) ∙ sym sized)
-      (λ s l. let q : s < sections j = omega (arith, length-listed (sections j) (pointIn r)) in getD-listed (sections j) (pointIn r) s noPoint q ∙ holds-point s q))
+      let a = listed-is noPoint (sections j) (pointIn r) (st .points) (sized .points) holds-point in
+      let b = listed-is noDrive (length (j .nodes)) (driveIn r) (st .drives) (sized .drives) holds-drive in
+      λ i. record { points = a i; drives = b i }
 
 -- rows hold the state that is read from them
 pub state-held : (j : Job) (r : Rows) → Enough j r → Holds j r (stateIn j r)
-unfolding holds stateIn pointIn
+unfolding holds stateIn pointIn driveIn
 state-held j r long =
     let n = sections j in
+    let y = length (j .nodes) in
     each _
     (λ _. take-listed zero64 n (r heads) (long heads) ∙ sym (map-listed (λ p. p .head) n (pointIn r)))
     (λ _. take-listed zero64 n (r flows) (long flows) ∙ sym (map-listed (λ p. p .flow) n (pointIn r)))
     (λ _. take-listed zero64 n (r highest) (long highest) ∙ sym (map-listed (λ p. p .highest) n (pointIn r)))
     (λ _. take-listed zero64 n (r lowest) (long lowest) ∙ sym (map-listed (λ p. p .lowest) n (pointIn r)))
+    (λ _. take-listed zero64 y (r speeds) (long speeds) ∙ sym (map-listed (λ d. d .speed) y (driveIn r)))
+    (λ _. take-listed zero64 y (r inflows) (long inflows) ∙ sym (map-listed (λ d. d .inflow) y (driveIn r)))
     (λ f. absurd (true≢false (sym f)))
 
 -- ---- the rows that a call leaves
@@ -99,8 +121,9 @@ module _ (j : Job) (st : State) (lent : Rows) where
   holds-long : Sized j st → (x : Row) → length (holds j st x) ≡ inUse j x
   unfolding holds
   holds-long e =
-      let l : (f : Point → Float) → length (map f (st .points)) ≡ sections j = λ f. length-map (st .points) f ∙ e in
-      each _ (l _) (l _) (l _) (l _) (length-replicate _ _)
+      let p : (f : Point → Float) → length (map f (st .points)) ≡ sections j = λ f. length-map (st .points) f ∙ e .points in
+      let d : (f : Drive → Float) → length (map f (st .drives)) ≡ length (j .nodes) = λ f. length-map (st .drives) f ∙ e .drives in
+      each _ (p _) (p _) (p _) (p _) (d _) (d _) (length-replicate _ _)
 
   pub rows-hold : Sized j st → (x : Row) → take (inUse j x) (rowsOf j st lent x) ≡ holds j st x
   unfolding rowsOf

@@ -1,31 +1,36 @@
 -- A run-on's questions and steps, as loops work them out: over the rows' entries, and one step at a time. Assumes nothing.
-use mathlib.Core.Path.{_≡_, refl, sym, ap, _∙_}
-use mathlib.Core.Bool.{Bool, true, false, true≢false}
-use Prim.Native.Nat.{ℕ, zero, suc, _+_, _-_}
+use mathlib.Core.Path.{_≡_, refl, sym, ap, ap₂, _∙_}
+use mathlib.Core.Bool.{Bool, true, false, _&&_, true≢false}
+use Prim.Native.Nat.{ℕ, zero, suc, _+_, _-_, _<_}
 use native.Mathlib.Nat.{zero-add}
 use native.Mathlib.Omega.{arith}
-use lib.Ieee.{Float}
+use lib.ListN.{length}
 use Rattle.loops.specs.Loops.{allBelow}
 use Rattle.loops.proofs.All.{all-cong}
-use Rattle.job.specs.Job.{Job, sections, floorAt}
-use Rattle.recurrence.specs.State.{Point, State}
-use Rattle.recurrence.specs.Step.{advanced}
-use Rattle.recurrence.specs.Scan.{Cause, none, fault, faultOf, scan, Outcome, finished, stopped, outcomeOf, step, acceptableAt, acceptable}
+use Rattle.job.specs.Job.{Job, sections, floorAt, scheduled}
+use Rattle.recurrence.specs.State.{Drive, State}
+use Rattle.recurrence.specs.Step.{valueBy, valueAt, advanced}
+use Rattle.recurrence.specs.Scan.{Cause, none, fault, finiteDrive, scan, Outcome, finished, stopped, outcomeOf, step, acceptableAt, acceptable}
 use Rattle.recurrence.specs.Run.{Run, Result, refused, ran, completed, stop, onward, steps}
-use Rattle.recurrence.specs.Calls.{Rows, pointIn, stateIn}
-use Rattle.recurrence.proofs.RowLaws.{state-at}
+use Rattle.recurrence.specs.Calls.{Rows, pointIn, driveIn, stateIn}
+use Rattle.recurrence.proofs.RowLaws.{state-at, drive-at}
 
 -- ---- question 22 and the scan
 
 -- of the rows' entries
-pub acceptable-rows : (j : Job) (r : Rows) → acceptable j (stateIn j r) ≡ allBelow (λ s. acceptableAt (floorAt j s) (pointIn r s)) (sections j)
+pub acceptable-rows :
+    (j : Job) (r : Rows)
+    → acceptable j (stateIn j r)
+    ≡ allBelow (λ s. acceptableAt (floorAt j s) (pointIn r s)) (sections j) && allBelow (λ y. finiteDrive (driveIn r y)) (length (j .nodes))
 unfolding acceptable
-acceptable-rows j r = all-cong (sections j) _ _ (λ s l. ap (acceptableAt (floorAt j s)) (state-at j r s l))
+acceptable-rows j r =
+    ap₂ _&&_ (all-cong (sections j) _ _ (λ s l. ap (acceptableAt (floorAt j s)) (state-at j r s l)))
+    (all-cong (length (j .nodes)) _ _ (λ y l. ap finiteDrive (drive-at j r y l)))
 
--- a fault turns on head and flow alone
-pub fault-of : (floor : Float) (s : ℕ) (p q : Point) → p .head ≡ q .head → p .flow ≡ q .flow → faultOf floor s p ≡ faultOf floor s q
-unfolding faultOf
-fault-of floor s p q h e = rw (h, e)
+-- v of a node at a step, of the rows' entries
+pub value-rows : (j : Job) (n : ℕ) (r : Rows) (y : ℕ) → y < length (j .nodes) → valueAt j n (stateIn j r) y ≡ valueBy (j .trips) n y (driveIn r y) (scheduled j n y)
+unfolding valueAt
+value-rows j n r y l = ap (λ (d : Drive). valueBy (j .trips) n y d (scheduled j n y)) (drive-at j r y l)
 
 -- ---- step by step
 

@@ -12,9 +12,10 @@ use Rattle.recurrence.specs.Run.{Run, Result, refused, ran, Ending, comp
 use Rattle.loops.proofs.Tests.{cond-all}
 use Rattle.loops.proofs.Listed.{length-listed}
 
--- a state with a point for each section
-abbrev pub Sized : Job → State → Type 0
-Sized j st = length (st .points) ≡ sections j
+-- a state with a point for each section and a drive for each node
+pub record Sized (j : Job) (st : State) : Type 0 where
+  pub points : length (st .points) ≡ sections j
+  pub drives : length (st .drives) ≡ length (j .nodes)
 
 -- ---- the state after m finished steps
 
@@ -32,14 +33,15 @@ finished-advanced j n old st e = go (scan j (advanced j n old)) e
 
 finished-sized : (j : Job) (n : ℕ) (old st : State) → step j n old ≡ finished st → Sized j st
 unfolding advanced
-finished-sized j n old st e = rw (← (finished-advanced j n old st e)) (length-listed (sections j) _)
+finished-sized j n old st e =
+    rw (← (finished-advanced j n old st e)) (record { points = length-listed (sections j) _; drives = length-listed (length (j .nodes)) _ })
 
 abbrev Stands : Job → Run → Type 0
 Stands j r = Reached j (r .done) (r .state)
 
 -- ---- the steps of a call
 
--- what steps come to: they ran, from one reached state to another, and left as many more steps done as finished; and a point for each section
+-- what steps come to: they ran, from one reached state to another, and left as many more steps done as finished; and the state has its size
 pub record RanSteps (j : Job) (N m : ℕ) (st : State) : Type 0 where
   pub run : Run
   pub ending : Ending

@@ -1,15 +1,16 @@
 -- Two runs agree wherever no difference has come: a family of sections, closed under what a step reads. Assumes nothing.
-use mathlib.Core.Path.{_≡_, refl, ap, ap₂}
+use mathlib.Core.Path.{_≡_, ap, ap₂}
 use mathlib.Core.List.{List}
 use mathlib.Core.Option.{some}
 use Prim.Native.Nat.{ℕ, zero, suc, _≤_}
-use lib.ListN.{getElem?}
-use Rattle.job.specs.Job.{Job, Laid, laid, laidFrom, sections, sectionsOf, frictionAt, initialAt, scheduled}
-use Rattle.recurrence.specs.State.{Point, State, pointAt, noPoint, startPoint, startState}
-use Rattle.recurrence.specs.Step.{alongPipes, nodesWith, updated, newPoint, advanced}
+use lib.ListN.{length, getElem?}
+use lib.Ieee.{Float}
+use Rattle.job.specs.Job.{Job, Laid, laid, laidFrom, sections, sectionsOf, frictionAt, nodeAt, initialAt, scheduled, withValue}
+use Rattle.recurrence.specs.State.{Point, Drive, State, noPoint, noDrive, pointAt, driveAt, startPoint, startDrive, startState}
+use Rattle.recurrence.specs.Step.{alongPipes, valueAt, nodesWith, newDrive, updated, newPoint, advanced}
 use Rattle.recurrence.specs.Paths.{EndAt, Beside}
-use Rattle.loops.proofs.Listed.{getD-listed-cong, listed-cong}
-use Rattle.recurrence.proofs.LocalStep.{Local, new-alike}
+use Rattle.loops.proofs.Listed.{getD-listed-cong}
+use Rattle.recurrence.proofs.LocalStep.{Local, sums-alike, new-alike}
 use Rattle.recurrence.proofs.Runs.{Reached, finished-advanced}
 
 -- far m s says of section s that no difference has come to it after m steps. Such a family goes with the layout where what step m + 1 reads for s lies
@@ -22,11 +23,14 @@ pub record Spreads (ls : List Laid) (far : ℕ → ℕ → Type 0) : Type 0 wher
 -- And it is a cone of the jobs A and B where all that is read for it is alike in both.
 pub record Closed (A B : Job) (far : ℕ → ℕ → Type 0) : Type 0 where
   pub pipes : A .pipes ≡ B .pipes
+  pub count : length (A .nodes) ≡ length (B .nodes)
+  pub trips : A .trips ≡ B .trips
+  pub kind : (y : ℕ) → nodeAt A y .kind ≡ nodeAt B y .kind
   pub whole : (p : ℕ) (l : Laid) → getElem? (laid A) p ≡ some l → 1 ≤ l .pipe .reaches
   pub spreads : Spreads (laid A) far
   pub first : (s : ℕ) → far 0 s → startPoint (initialAt A s) ≡ startPoint (initialAt B s)
   pub reach : (m r s t : ℕ) → far (suc m) s → Beside (laid A) r s t → frictionAt A r ≡ frictionAt B r
-  pub node : (m y s : ℕ) → far (suc m) s → EndAt (laid A) y s → nodesWith A (scheduled A (suc m)) y ≡ nodesWith B (scheduled B (suc m)) y
+  pub value : (m y s : ℕ) → far (suc m) s → EndAt (laid A) y s → scheduled A (suc m) y ≡ scheduled B (suc m) y
 
 module _ (A B : Job) (far : ℕ → ℕ → Type 0) (cl : Closed A B far) where
   sections-same : sections A ≡ sections B
@@ -37,50 +41,101 @@ module _ (A B : Job) (far : ℕ → ℕ → Type 0) (cl : Closed A B far) where
   unfolding laid
   laid-same = ap (laidFrom 0 0) (cl .pipes)
 
-  start-alike : (s : ℕ) → far 0 s → pointAt (startState A) s ≡ pointAt (startState B) s
-  unfolding startState pointAt
-  start-alike s n =
-      rw sections-same (getD-listed-cong (sections B) (λ t. startPoint (initialAt A t)) (λ t. startPoint (initialAt B t)) s noPoint (cl .first s n))
+  -- The states of both runs after m steps are alike at the sections that no difference has come to. A node's drive is what step m + 1 reads of it, so it is
+  -- alike where no difference comes to the node by that step: the start's speed is the value of step 1.
+  pub record Alike (m : ℕ) (u v : State) : Type 0 where
+    pub points : (s : ℕ) → far m s → pointAt u s ≡ pointAt v s
+    pub drives : (y s : ℕ) → far (suc m) s → EndAt (laid A) y s → driveAt u y ≡ driveAt v y
 
-  -- what step m + 1 works out for a section, by each job
-  abbrev newA : ℕ → State → ℕ → Point
-  newA m u = newPoint (laid A) (alongPipes A u) (nodesWith A (scheduled A (suc m))) u
+  -- ---- the start
 
-  abbrev newB : ℕ → State → ℕ → Point
-  newB m v = newPoint (laid A) (alongPipes B v) (nodesWith B (scheduled B (suc m))) v
+  pub start-drive : (y : ℕ) → startDrive A y ≡ startDrive B y → driveAt (startState A) y ≡ driveAt (startState B) y
+  unfolding startState driveAt
+  start-drive y e = rw (cl .count) (getD-listed-cong (length (B .nodes)) (startDrive A) (startDrive B) y noDrive e)
 
-  step-local : (m : ℕ) (u v : State) → ((s : ℕ) → far m s → pointAt u s ≡ pointAt v s)
-      → Local (laid A) (alongPipes A u) (alongPipes B v) (nodesWith A (scheduled A (suc m))) (nodesWith B (scheduled B (suc m))) (far (suc m))
-  unfolding alongPipes
-  step-local m u v h = record {
-    whole = cl .whole;
-    beside = λ r s t n b. let e = h t (cl .spreads .beside m r s t n b) in λ i. record { head = e i .head; flow = e i .flow };
-    reach = cl .reach m;
-    across = cl .spreads .across m;
-    node = cl .node m;
+  start-alike : Alike 0 (startState A) (startState B)
+  unfolding startState pointAt startDrive
+  start-alike = record {
+    points = λ s n.
+        rw sections-same (getD-listed-cong (sections B) (λ t. startPoint (initialAt A t)) (λ t. startPoint (initialAt B t)) s noPoint (cl .first s n));
+    drives = λ y s n a. start-drive y (cc (cl .kind y, cl .value 0 y s n a));
   }
 
-  point-alike : (m : ℕ) (u v : State) → ((s : ℕ) → far m s → pointAt u s ≡ pointAt v s) → (s : ℕ) → far (suc m) s → newA m u s ≡ newB m v s
-  unfolding newPoint
-  point-alike m u v h s n = ap₂ updated (new-alike (laid A) _ _ _ _ (far (suc m)) (step-local m u v h) s n) (h s (cl .spreads .same m s n))
+  -- ---- a step
 
-  step-alike : (m : ℕ) (u v : State) → ((s : ℕ) → far m s → pointAt u s ≡ pointAt v s)
-      → (s : ℕ) → far (suc m) s → pointAt (advanced A (suc m) u) s ≡ pointAt (advanced B (suc m) v) s
-  unfolding advanced pointAt
-  step-alike m u v h s n =
-      rw (sections-same, ← laid-same)
-      (getD-listed-cong (sections B) (newA m u) (newB m v) s noPoint (point-alike m u v h s n))
+  module _ (m : ℕ) (u v : State) (h : Alike m u v) where
+    abbrev valueA : ℕ → Float
+    valueA = valueAt A (suc m) u
 
-  -- where nothing differs yet, the whole step is alike
-  pub advanced-same : (m : ℕ) (u : State) → ((s : ℕ) → far (suc m) s) → advanced A (suc m) u ≡ advanced B (suc m) u
-  unfolding advanced
-  advanced-same m u all =
-      rw (sections-same, ← laid-same)
-      (ap (λ ps. record { points = ps })
-      (listed-cong (sections B) (newA m u) (newB m u) (λ s _. point-alike m u u (λ t _. refl) s (all s))))
+    abbrev valueB : ℕ → Float
+    valueB = valueAt B (suc m) v
 
-  pub agree : (m : ℕ) (u v : State) → Reached A m u → Reached B m v → (s : ℕ) → far m s → pointAt u s ≡ pointAt v s
-  agree zero u v ru rv s n = rw (ru, rv) (start-alike s n)
-  agree (suc m) u v ru rv s n =
+    -- what step m + 1 works out for a section, and for a node, by each job
+    abbrev pointA : ℕ → Point
+    pointA = newPoint (laid A) (alongPipes A u) (nodesWith A valueA) u
+
+    abbrev pointB : ℕ → Point
+    pointB = newPoint (laid A) (alongPipes B v) (nodesWith B valueB) v
+
+    abbrev driveA : ℕ → Drive
+    driveA = newDrive A (laid A) (alongPipes A u) valueA
+
+    abbrev driveB : ℕ → Drive
+    driveB = newDrive B (laid A) (alongPipes B v) valueB
+
+    value-alike : (y s : ℕ) → far (suc m) s → EndAt (laid A) y s → valueA y ≡ valueB y
+    unfolding valueAt
+    value-alike y s n a = cc (cl .trips, h .drives y s n a, cl .value m y s n a)
+
+    node-alike : (y s : ℕ) → far (suc m) s → EndAt (laid A) y s → nodesWith A valueA y ≡ nodesWith B valueB y
+    unfolding nodesWith
+    node-alike y s n a = ap₂ withValue (cl .kind y) (value-alike y s n a)
+
+    step-local : Local (laid A) (alongPipes A u) (alongPipes B v) (nodesWith A valueA) (nodesWith B valueB) (far (suc m))
+    unfolding alongPipes
+    step-local = record {
+      whole = cl .whole;
+      beside = λ r s t n b. let e = h .points t (cl .spreads .beside m r s t n b) in λ i. record { head = e i .head; flow = e i .flow };
+      reach = cl .reach m;
+      across = cl .spreads .across m;
+      node = node-alike;
+    }
+
+    point-alike : (s : ℕ) → far (suc m) s → pointA s ≡ pointB s
+    unfolding newPoint
+    point-alike s n = ap₂ updated (new-alike (laid A) _ _ _ _ (far (suc m)) step-local s n) (h .points s (cl .spreads .same m s n))
+
+    drive-alike : (y s : ℕ) → far (suc m) s → EndAt (laid A) y s → driveA y ≡ driveB y
+    unfolding newDrive
+    drive-alike y s n a = cc (cl .kind y, value-alike y s n a, node-alike y s n a, sums-alike (laid A) _ _ _ _ (far (suc m)) step-local y s n a)
+
+    advanced-point : (s : ℕ) → far (suc m) s → pointAt (advanced A (suc m) u) s ≡ pointAt (advanced B (suc m) v) s
+    unfolding advanced pointAt
+    advanced-point s n = rw (sections-same, ← laid-same) (getD-listed-cong (sections B) pointA pointB s noPoint (point-alike s n))
+
+    advanced-drive : (y s : ℕ) → far (suc m) s → EndAt (laid A) y s → driveAt (advanced A (suc m) u) y ≡ driveAt (advanced B (suc m) v) y
+    unfolding advanced driveAt
+    advanced-drive y s n a = rw (cl .count, ← laid-same) (getD-listed-cong (length (B .nodes)) driveA driveB y noDrive (drive-alike y s n a))
+
+  -- ---- so many steps
+
+  driven : (m : ℕ) (u v : State) (ru : Reached A (suc m) u) (rv : Reached B (suc m) v) → Alike m (ru .0) (rv .0)
+      → (y s : ℕ) → far (suc m) s → EndAt (laid A) y s → driveAt u y ≡ driveAt v y
+  driven m u v ru rv h y s n a =
       rw (← (finished-advanced A (suc m) (ru .0) u (ru .2)), ← (finished-advanced B (suc m) (rv .0) v (rv .2)))
-      (step-alike m (ru .0) (rv .0) (agree m (ru .0) (rv .0) (ru .1) (rv .1)) s n)
+      (advanced-drive m (ru .0) (rv .0) h y s n a)
+
+  pub agree : (m : ℕ) (u v : State) → Reached A m u → Reached B m v → Alike m u v
+  agree zero u v ru rv = rw (ru, rv) start-alike
+  agree (suc m) u v ru rv =
+      let h = agree m (ru .0) (rv .0) (ru .1) (rv .1) in
+      record {
+        points = λ s n.
+            rw (← (finished-advanced A (suc m) (ru .0) u (ru .2)), ← (finished-advanced B (suc m) (rv .0) v (rv .2)))
+            (advanced-point m (ru .0) (rv .0) h s n);
+        drives = λ y s n a. driven m u v ru rv h y s (cl .spreads .same (suc m) s n) a;
+      }
+
+  -- after a step the drives are alike where the points are
+  pub drives-agree : (m : ℕ) (u v : State) → Reached A (suc m) u → Reached B (suc m) v → (y s : ℕ) → far (suc m) s → EndAt (laid A) y s → driveAt u y ≡ driveAt v y
+  drives-agree m u v ru rv = driven m u v ru rv (agree m (ru .0) (rv .0) (ru .1) (rv .1))

@@ -36,6 +36,7 @@ withLevels vs = record {
   nodes = record { kind = reservoir; schedule = vs } ∷ record { kind = valve (num 2) (num 6); schedule = num 0 ∷ [] } ∷ [];
   friction = num 0 ∷ num 0 ∷ [];
   initial = replicate 3 record { head = num 10; flow = num 4; floor = num 0 };
+  trips = [];
 }
 
 abbrev tens : List Float
@@ -86,6 +87,25 @@ only zero l e = record {
 }
 only (suc p) l e = let z : _≡_ {A = ℕ} 0 1 = cc in absurd (omega arith)
 
+-- from the finish of a pipe of two reaches up to its start
+pub up-one-pipe : (ls : List Laid) → ((p : ℕ) (l : Laid) → getElem? ls p ≡ some l → OnePipe l) → AtLeast ls (EndAt ls 1) 0 2
+unfolding AtLeast
+up-one-pipe ls one e p = by-levels ls (EndAt ls 1) (λ s. 2 - s) from next same 0 e p
+  where
+    from : (s : ℕ) → EndAt ls 1 s → 2 - s ≡ 0
+    from s (startsAt p l e q h) = omega (arith, one p l e)
+    from s (finishesAt p l e q h) = omega (arith, one p l e)
+
+    next : (r s t : ℕ) → Beside ls r s t → 2 - t ≤ suc (2 - s)
+    next r s t (down p l i e h q a b) = omega arith
+    next r s t (up p l i e h q a b) = omega arith
+
+    same : (y s t : ℕ) → EndAt ls y s → EndAt ls y t → 2 - t ≤ 2 - s
+    same y s t (startsAt p l e q h) (startsAt p′ l′ e′ q′ h′) = omega (arith, one p l e, one p′ l′ e′)
+    same y s t (startsAt p l e q h) (finishesAt p′ l′ e′ q′ h′) = omega (arith, one p l e, one p′ l′ e′)
+    same y s t (finishesAt p l e q h) (startsAt p′ l′ e′ q′ h′) = omega (arith, one p l e, one p′ l′ e′)
+    same y s t (finishesAt p l e q h) (finishesAt p′ l′ e′ q′ h′) = omega (arith, one p l e, one p′ l′ e′)
+
 off : AtLeast laidQ (EndAt laidQ 0) 2 2
 unfolding AtLeast
 off e p = by-levels laidQ (EndAt laidQ 0) (λ s. s) from next same 2 e p
@@ -108,7 +128,7 @@ off e p = by-levels laidQ (EndAt laidQ 0) (λ s. s) from next same 2 e p
 
 alike : (vs ws : List Float) → AlikeBut 0 (withLevels vs) (withLevels ws)
 unfolding opened withLevels
-alike vs ws = record { pipes = refl; friction = refl; initial = refl; count = refl; kind = refl; others = others }
+alike vs ws = record { pipes = refl; friction = refl; initial = refl; trips = refl; count = refl; kind = refl; others = others }
   where
     others : (y : ℕ) → ¬ (y ≡ 0) → nodeAt (withLevels vs) y ≡ nodeAt (withLevels ws) y
     others zero h = absurd (h refl)

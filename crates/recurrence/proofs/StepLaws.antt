@@ -1,25 +1,40 @@
--- The points of a step, as a sweep over the pipes works them out: by pipe and offset, and the sums one pipe at a time. Assumes nothing.
+-- The points and drives of a step, as a sweep over the pipes works them out: by pipe and offset, and the sums one pipe at a time; and what overwrites
+-- what came before it, one at a time. Assumes nothing.
 use mathlib.Core.Path.{_≡_, refl}
 use mathlib.Core.Bool.{Bool, true, false, cond}
 use mathlib.Core.List.{List, [], _∷_}
 use mathlib.Core.Option.{some}
 use Prim.Native.Nat.{ℕ, zero, suc, _<_}
 use lib.Dec.{eqb}
-use lib.ListN.{getElem?, take}
+use lib.ListN.{length, getElem?, take}
 use lib.Ieee.{Float}
 use Rattle.fields.specs.Real.{_⊞_}
 use Rattle.wave.specs.Wave.{sumFrom}
-use Rattle.job.specs.Job.{Job, Laid, laid, sections, scheduled}
-use Rattle.recurrence.specs.State.{State, noPoint, pointAt}
-use Rattle.recurrence.specs.Step.{alongPipes, nodesWith, endsOf, newPoint, advanced}
+use Rattle.job.specs.Job.{Job, Laid, laid, sections}
+use Rattle.recurrence.specs.State.{State, noPoint, noDrive, pointAt, driveAt}
+use Rattle.recurrence.specs.Step.{alongPipes, lastThat, valueAt, nodesWith, newDrive, endsOf, newPoint, advanced}
 use Rattle.loops.proofs.Listed.{getD-listed}
 
 -- ---- the new points
 
 module _ (j : Job) (n : ℕ) (st : State) where
-  pub advanced-at : (s : ℕ) → s < sections j → pointAt (advanced j n st) s ≡ newPoint (laid j) (alongPipes j st) (nodesWith j (scheduled j n)) st s
+  pub advanced-at : (s : ℕ) → s < sections j → pointAt (advanced j n st) s ≡ newPoint (laid j) (alongPipes j st) (nodesWith j (valueAt j n st)) st s
   unfolding advanced pointAt
-  advanced-at s h = getD-listed (sections j) (newPoint (laid j) (alongPipes j st) (nodesWith j (scheduled j n)) st) s noPoint h
+  advanced-at s h = getD-listed (sections j) (newPoint (laid j) (alongPipes j st) (nodesWith j (valueAt j n st)) st) s noPoint h
+
+  pub driven-at : (y : ℕ) → y < length (j .nodes) → driveAt (advanced j n st) y ≡ newDrive j (laid j) (alongPipes j st) (valueAt j n st) y
+  unfolding advanced driveAt
+  driven-at y h = getD-listed (length (j .nodes)) (newDrive j (laid j) (alongPipes j st) (valueAt j n st)) y noDrive h
+
+-- ---- a walk that overwrites: the last that passes
+
+pub last-next :
+    {T A : Type 0} (passes : T → Bool) (of : T → A) (x : A) (ts : List T) (p : ℕ) (t : T) → getElem? ts p ≡ some t
+    → lastThat passes of x (take (suc p) ts) ≡ cond (passes t) (of t) (lastThat passes of x (take p ts))
+unfolding lastThat
+last-next passes of x [] p t e = cc
+last-next passes of x (o ∷ ts) zero t e = let w : o ≡ t = cc in rw w
+last-next passes of x (o ∷ ts) (suc p) t e = last-next passes of (cond (passes o) (of o) x) ts p t e
 
 -- ---- a node's sums
 

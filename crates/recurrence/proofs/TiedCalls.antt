@@ -5,11 +5,12 @@ use mathlib.Core.List.{List, [], _∷_, map}
 use Prim.Native.Nat.{ℕ, _<_}
 use native.Mathlib.Omega.{arith}
 use lib.Dec.{eqb}
+use lib.ListN.{length}
 use borrow.Author.Tests.{ne-eqb, eqb-true, eqb-false}
 use Rattle.job.specs.Job.{Job, sections, initialAt}
 use Rattle.job.specs.Format.{jobOf}
 use Rattle.job.specs.Questions.{refusal}
-use Rattle.recurrence.specs.State.{startPoint, startState}
+use Rattle.recurrence.specs.State.{startPoint, startDrive, startState}
 use Rattle.recurrence.specs.Scan.{notFinite, parted, causeNumber}
 use Rattle.recurrence.specs.Run.{Run, Result, refused, ran, Ending, completed, stop, stopAnswer, answerOf, ask, started, start, steps, runOn, leftBy, playedFrom, played, answersFrom, answers}
 use Rattle.recurrence.specs.Calls.{Rows, enoughLent, stateIn, rowsAfter, readFirst, called, startResult, startCall, runOnResult, runOnCall}
@@ -26,7 +27,7 @@ module _ (job : List ℕ) where
 
   pub start-sized : Sized j (startState j)
   unfolding startState
-  start-sized = length-listed (sections j) (λ s. startPoint (initialAt j s))
+  start-sized = record { points = length-listed (sections j) (λ s. startPoint (initialAt j s)); drives = length-listed (length (j .nodes)) (startDrive j) }
 
   -- a start that isn't refused: the job is accepted, and enough is lent
   pub record Begun (lent : Rows) : Type 0 where

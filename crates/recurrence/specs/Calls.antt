@@ -10,46 +10,53 @@ use Rattle.job.specs.Job.{Job, sections}
 use Rattle.job.specs.Format.{jobOf}
 use Rattle.loops.specs.Loops.{listed}
 use Rattle.job.specs.Questions.{refusal}
-use Rattle.recurrence.specs.State.{Point, State}
+use Rattle.recurrence.specs.State.{Point, Drive, State}
 use Rattle.recurrence.specs.Run.{Result, refused, ran, Answer, answerOf, start, runOn}
 
--- "Heads, flows, two envelopes .. are lent slices of f64 numbers, to start and run-on alike"; "The spare becomes one slice of two values per pipe end,
--- four per pipe": the name of each, and all of them in the order in which they are lent.
+-- "Heads, flows, two envelopes .. are lent slices of f64 numbers, to start and run-on alike"; request 7: "a speed and an inflow per node, lent with the rest";
+-- "The spare becomes one slice of two values per pipe end, four per pipe": the name of each, and all of them in the order in which they are lent.
 pub data Row : Type 0 where
   heads : Row
   flows : Row
   highest : Row
   lowest : Row
+  speeds : Row
+  inflows : Row
   spare : Row
 
 abbrev pub allRows : List Row
-allRows = heads ∷ flows ∷ highest ∷ lowest ∷ spare ∷ []
+allRows = heads ∷ flows ∷ highest ∷ lowest ∷ speeds ∷ inflows ∷ spare ∷ []
 
 -- what the lent slices hold, each by its name
 abbrev pub Rows : Type 0
 Rows = Row → List Float
 
 -- one thing for each row, in that order, by the row's name
-abbrev pub gathered : {A : Type 0} → A → A → A → A → A → Row → A
-gathered h q u l e heads = h
-gathered h q u l e flows = q
-gathered h q u l e highest = u
-gathered h q u l e lowest = l
-gathered h q u l e spare = e
+abbrev pub gathered : {A : Type 0} → A → A → A → A → A → A → A → Row → A
+gathered h q u l v i e heads = h
+gathered h q u l v i e flows = q
+gathered h q u l v i e highest = u
+gathered h q u l v i e lowest = l
+gathered h q u l v i e speeds = v
+gathered h q u l v i e inflows = i
+gathered h q u l v i e spare = e
 
 -- whether every row passes a test
 abbrev pub every : (Row → Bool) → Bool
 every test = foldr (λ x rest. test x && rest) true allRows
 
--- how many entries of a row a job uses, "the count in use": "the section count", and of the spare "four per pipe"
+-- how many entries of a row a job uses, "the count in use": "the section count", of speeds and inflows "the node count", and of the spare "four per pipe"
 abbrev pub inUse : Job → Row → ℕ
 inUse j heads = sections j
 inUse j flows = sections j
 inUse j highest = sections j
 inUse j lowest = sections j
+inUse j speeds = length (j .nodes)
+inUse j inflows = length (j .nodes)
 inUse j spare = length (j .pipes) * 4
 
--- question 20: "does each lent slice hold the section count?", and of the spare: "asks for that length of it instead"
+-- question 20: "does each lent slice hold the section count?", of speeds and inflows: "that these slices hold the node count", and of the spare: "asks for
+-- that length of it instead"
 unfoldable pub enoughLent : Job → Rows → Bool
 enoughLent j r = every (λ x. leb (inUse j x) (length (r x)))
 
@@ -62,15 +69,20 @@ pointIn r s = record {
   lowest = getD (r lowest) s zero64;
 }
 
-unfoldable pub stateIn : Job → Rows → State
-stateIn j r = record { points = listed (sections j) (pointIn r) }
+unfoldable pub driveIn : Rows → ℕ → Drive
+driveIn r node = record { speed = getD (r speeds) node zero64; inflow = getD (r inflows) node zero64 }
 
--- What a row holds of a state in the entries in use: a field of each point; of the spare, "after an unrefused call that many of its entries are +0".
+unfoldable pub stateIn : Job → Rows → State
+stateIn j r = record { points = listed (sections j) (pointIn r); drives = listed (length (j .nodes)) (driveIn r) }
+
+-- What a row holds of a state in the entries in use: a field of each point, or of each drive; of the spare, "after an unrefused call that many of its entries are +0".
 unfoldable pub holds : Job → State → Rows
 holds j st heads = map (λ p. p .head) (st .points)
 holds j st flows = map (λ p. p .flow) (st .points)
 holds j st highest = map (λ p. p .highest) (st .points)
 holds j st lowest = map (λ p. p .lowest) (st .points)
+holds j st speeds = map (λ d. d .speed) (st .drives)
+holds j st inflows = map (λ d. d .inflow) (st .drives)
 holds j st spare = replicate (inUse j spare) zero64
 
 -- The rows after an unrefused call: "entries past the count in use are untouched".

@@ -17,7 +17,7 @@ AfterCalls holding =
     (job : List ℕ) (lent : Rows) → Started job lent → (cs : List LentCall) → Chained job (heldAtStart job lent) cs
     → holding job (heldBy job lent cs .rows)
 
--- Heads, flows and envelopes up to the count in use are finite, so no entry that demand 3 speaks of is a NaN: equal numbers are equal bits.
+-- All rows but the spare are finite up to the count in use, so no entry that demand 3 speaks of is a NaN: equal numbers are equal bits.
 abbrev pub AllFinite : Type 0
 AllFinite = AfterCalls (λ job rows. (x : Row) → carried x ≡ true → (s : ℕ) → s < inUse (jobOf job) x → finite (getD (rows x) s zero64) ≡ true)
 

@@ -18,7 +18,7 @@ use Rattle.recurrence.specs.OwnFigures.{pipe, node, initially, after}
 
 -- a job without friction
 abbrev pub smooth : List Pipe → List ScheduledNode → List Initial → Job
-smooth pipes nodes initial = record { pipes = pipes; nodes = nodes; friction = num 0 ∷ num 0 ∷ num 0 ∷ []; initial = initial }
+smooth pipes nodes initial = record { pipes = pipes; nodes = nodes; friction = num 0 ∷ num 0 ∷ num 0 ∷ []; initial = initial; trips = [] }
 
 abbrev pub still : Initial
 still = initially (num 0) (num 0) (num 0)

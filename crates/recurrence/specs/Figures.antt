@@ -38,9 +38,9 @@ jobQRising = patched (take 214 jobQLongCounts) ((42, 24) ∷ (46, 230) ∷ []) +
 
 -- ---- calls
 
--- sevens, one more in each row than job Q and its like use: they have three sections and one pipe
+-- sevens, one more in each row than job Q and its like use: they have three sections, two nodes and one pipe
 unfoldable pub lentSevens : Rows
-lentSevens x = replicate (gathered 4 4 4 4 5 x) (num 7)
+lentSevens x = replicate (gathered 4 4 4 4 3 3 5 x) (num 7)
 
 -- a start in such rows, and a run-on of N steps
 unfoldable pub ranOn : List ℕ → ℕ → Called

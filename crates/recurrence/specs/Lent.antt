@@ -9,7 +9,7 @@ use Rattle.job.specs.Job.{Job}
 use Rattle.job.specs.Format.{jobOf}
 use Rattle.recurrence.specs.State.{State}
 use Rattle.recurrence.specs.Run.{Answer, Call, played, answers, stepsDone}
-use Rattle.recurrence.specs.Calls.{Row, heads, flows, highest, lowest, spare, Rows, inUse, enoughLent, pointIn, holds, startCall, runOnCall}
+use Rattle.recurrence.specs.Calls.{Row, heads, flows, highest, lowest, speeds, inflows, spare, Rows, inUse, enoughLent, pointIn, driveIn, holds, startCall, runOnCall}
 use Rattle.recurrence.specs.Demand.{AlikeBut, AlikeBefore, Seen, Carried}
 
 -- A run-on as a caller makes it: N, and the rows lent to it.
@@ -63,9 +63,11 @@ carried heads = true
 carried flows = true
 carried highest = true
 carried lowest = true
+carried speeds = true
+carried inflows = true
 carried spare = false
 
--- two sets of rows hold the same heads, flows and envelopes in the entries in use
+-- two sets of rows hold the same state and envelopes in the entries in use
 abbrev pub SameUpTo : Job → Rows → Rows → Type 0
 SameUpTo j a b = (x : Row) → carried x ≡ true → take (inUse j x) (a x) ≡ take (inUse j x) (b x)
 
@@ -81,7 +83,7 @@ Chained job h (c ∷ cs) =
 unfoldable pub callOf : List ℕ → LentCall → Call
 callOf job c = record { count = c .count; enough = enoughLent (jobOf job) (c .rows) }
 
--- rows hold a state in the entries in use: its heads, flows and envelopes
+-- rows hold a state in the entries in use, with its envelopes
 abbrev pub Holds : Job → Rows → State → Type 0
 Holds j r st = (x : Row) → carried x ≡ true → take (inUse j x) (r x) ≡ holds j st x
 
@@ -101,7 +103,8 @@ CallsTied =
 -- after a start and the calls, in the rows that the last one left
 abbrev pub seenIn : List ℕ → Rows → List LentCall → Seen
 seenIn job lent cs =
-    record { done = heldBy job lent cs .done; point = pointIn (heldBy job lent cs .rows); answers = answersBy job lent cs }
+    let held = heldBy job lent cs in
+    record { done = held .done; point = pointIn (held .rows); drive = driveIn (held .rows); answers = answersBy job lent cs }
 
 -- "The same calls means the same N and the same answer to question 20, call by call."
 abbrev pub Demand3InRows : Type 0

@@ -1,4 +1,5 @@
 pub mod DetailFigures
+pub mod DriveFigures
 pub mod State
 pub mod Step
 pub mod Scan
@@ -11,4 +12,6 @@ pub mod Lent
 pub mod Continued
 pub mod Figures
 pub mod OwnFigures
+pub mod PowerFailure
+pub mod TrippedJobs
 pub mod Sharp

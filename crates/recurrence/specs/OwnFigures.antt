@@ -1,9 +1,10 @@
 -- Our own figures of the recurrence, proved in proofs/Figures.antt. They were worked out apart from the definitions, in IEEE arithmetic, one rounding
 -- an operation, and chosen so that a slip in a definition changes at least one. Definitions only.
 use mathlib.Core.Path.{_≡_}
-use mathlib.Core.Bool.{true, false}
+use mathlib.Core.Bool.{true, false, cond}
 use mathlib.Core.List.{List, [], _∷_, map}
 use Prim.Native.Nat.{ℕ}
+use lib.Dec.{eqb}
 use lib.ListN.{set, take, replicate}
 use lib.Ieee.{Float, nan, binary64, neg, toBits}
 use Rattle.fields.specs.Real.{zero64, infinity64}
@@ -14,7 +15,7 @@ use Rattle.job.specs.JobQ.{jobQ}
 use Rattle.job.specs.SixPairs.{jobQLongCounts}
 use Rattle.recurrence.specs.State.{startState}
 use Rattle.recurrence.specs.Run.{Answer, answerOf, started, steps, leftBy}
-use Rattle.recurrence.specs.Calls.{Row, heads, flows, highest, lowest, spare, allRows, Rows, gathered, enoughLent, holds, Called, startCall, runOnCall}
+use Rattle.recurrence.specs.Calls.{Row, heads, flows, highest, lowest, speeds, inflows, spare, allRows, Rows, gathered, enoughLent, holds, Called, startCall, runOnCall}
 use Rattle.recurrence.specs.Figures.{jobQOnFloor, jobQClosing, jobQTooOpen, lentSevens, ranOn, refusal, done}
 
 -- ---- what the calls leave in the rows
@@ -43,62 +44,66 @@ shown c = (c .answer .number ∷ c .answer .steps ∷ c .answer .section ∷ [])
 abbrev pub _leaves_ : Called → Called → Type 0
 c leaves d = shown c ≡ shown d
 
+-- the place of each row in the order in which they are lent
+abbrev pub number : Row → ℕ
+number = gathered 0 1 2 3 4 5 6
+
 -- rows as given, but for row x
 abbrev pub but : Rows → Row → List Float → Rows
-but r heads l = gathered l (r flows) (r highest) (r lowest) (r spare)
-but r flows l = gathered (r heads) l (r highest) (r lowest) (r spare)
-but r highest l = gathered (r heads) (r flows) l (r lowest) (r spare)
-but r lowest l = gathered (r heads) (r flows) (r highest) l (r spare)
-but r spare l = gathered (r heads) (r flows) (r highest) (r lowest) l
+but r x l y = cond (eqb (number x) (number y)) l (r y)
+
+-- heads, flows and envelopes as given, speeds and inflows of two nodes that aren't pumps, and the spare cleared
+abbrev pub withoutPump : List Float → List Float → List Float → List Float → Rows
+withoutPump h q u l = gathered h q u l (num 0 ∷ num 0 ∷ num 7 ∷ []) (num 0 ∷ num 0 ∷ num 7 ∷ []) cleared
 
 pub record RowFigures : Type 0 where
   -- the rows in the order in which they are lent, each once
-  pub in-order : (let number : Row → ℕ = gathered 0 1 2 3 4 in map number allRows ≡ 0 ∷ 1 ∷ 2 ∷ 3 ∷ 4 ∷ [])
-  pub start : startCall jobQ lentSevens leaves record { rows = gathered (row (num 10) (num 10) (num 10)) (row (num 4) (num 4) (num 4)) (row (num 10) (num 10) (num 10)) (row (num 10) (num 10) (num 10)) cleared; answer = done 0 }
+  pub in-order : map number allRows ≡ 0 ∷ 1 ∷ 2 ∷ 3 ∷ 4 ∷ 5 ∷ 6 ∷ []
+  pub start : startCall jobQ lentSevens leaves record { rows = withoutPump (row (num 10) (num 10) (num 10)) (row (num 4) (num 4) (num 4)) (row (num 10) (num 10) (num 10)) (row (num 10) (num 10) (num 10)); answer = done 0 }
   -- document 01's listing of job Q
-  pub one-step : ranOn jobQ 1 leaves record { rows = gathered (row (num 10) (num 10) (num 14)) (row (num 4) (num 4) (num 0)) (row (num 10) (num 10) (num 14)) (row (num 10) (num 10) (num 10)) cleared; answer = done 1 }
+  pub one-step : ranOn jobQ 1 leaves record { rows = withoutPump (row (num 10) (num 10) (num 14)) (row (num 4) (num 4) (num 0)) (row (num 10) (num 10) (num 14)) (row (num 10) (num 10) (num 10)); answer = done 1 }
   -- the minimum is lowered
-  pub five-steps : ranOn jobQ 5 leaves record { rows = gathered (row (num 10) (num 10) (num 6)) (row (neg (num 4)) (neg (num 4)) (num 0)) (row (num 10) (num 14) (num 14)) (row (num 10) (num 10) (num 6)) cleared; answer = done 5 }
+  pub five-steps : ranOn jobQ 5 leaves record { rows = withoutPump (row (num 10) (num 10) (num 6)) (row (neg (num 4)) (neg (num 4)) (num 0)) (row (num 10) (num 14) (num 14)) (row (num 10) (num 10) (num 6)); answer = done 5 }
   -- a stop at the fifth step leaves the fourth's state and envelopes
-  pub stop : ranOn jobQOnFloor 9 leaves record { rows = gathered (row (num 10) (num 10) (num 14)) (row (neg (num 4)) (neg (num 4)) (num 0)) (row (num 10) (num 14) (num 14)) (row (num 10) (num 10) (num 10)) cleared; answer = record { number = 41; steps = 4; section = 2 } }
+  pub stop : ranOn jobQOnFloor 9 leaves record { rows = withoutPump (row (num 10) (num 10) (num 14)) (row (neg (num 4)) (neg (num 4)) (num 0)) (row (num 10) (num 14) (num 14)) (row (num 10) (num 10) (num 10)); answer = record { number = 41; steps = 4; section = 2 } }
   -- a spare lent full of NaNs: the same step, and past the entries in use a NaN is left
   pub nan-spare : runOnCall jobQ 0 1 (but (startCall jobQ lentSevens .rows) spare (replicate 5 nan)) leaves record { rows = but (ranOn jobQ 1 .rows) spare (clearedBut nan); answer = done 1 }
   -- no step: the spare is cleared
-  pub no-step : runOnCall jobQ 3 0 lentSevens leaves record { rows = gathered (lentSevens heads) (lentSevens flows) (lentSevens highest) (lentSevens lowest) cleared; answer = done 3 }
+  pub no-step : runOnCall jobQ 3 0 lentSevens leaves record { rows = but lentSevens spare cleared; answer = done 3 }
 
 -- ---- refusals: the rows as they were, and the number alone
 
 abbrev pub refusedBy : ℕ → Rows → Called
 refusedBy q lent = record { rows = lent; answer = refusal q }
 
--- sevens with one fewer in row x than is in use; with v for its third entry
+-- sevens with one fewer in row x than is in use; with v for its last entry in use
 abbrev pub short : Row → Rows
-short x = but lentSevens x (replicate (gathered 2 2 2 2 3 x) (num 7))
+short x = but lentSevens x (replicate (gathered 2 2 2 2 1 1 3 x) (num 7))
 
 abbrev pub holding : Float → Row → Rows
-holding v x = but lentSevens x (set (lentSevens x) 2 v)
+holding v x = but lentSevens x (set (lentSevens x) (gathered 2 2 2 2 1 1 3 x) v)
 
--- sevens in so many entries of each row of sections, and of the spare
-abbrev pub sevens : ℕ → ℕ → Rows
-sevens n m x = replicate (gathered n n n n m x) (num 7)
+-- sevens in so many entries of each row of sections, of nodes, and of the spare
+abbrev pub sevens : ℕ → ℕ → ℕ → Rows
+sevens n y m x = replicate (gathered n n n n y y m x) (num 7)
 
 -- a pipe of n reaches, and a job of which only the pipes matter
 abbrev pub pipe : ℕ → ℕ → ℕ → Float → Pipe
 pipe s f n S = record { start = s; finish = f; reaches = n; S = S }
 
 abbrev pub pipesOnly : List Pipe → Job
-pipesOnly ps = record { pipes = ps; nodes = []; friction = []; initial = [] }
+pipesOnly ps = record { pipes = ps; nodes = []; friction = []; initial = []; trips = [] }
 
 pub record RefusalFigures : Type 0 where
-  -- question 20, of whichever row: two entries are too few for three sections, three for the spare of one pipe, which is the section count; one more is
-  -- enough
+  -- question 20, of whichever row: two entries are too few for three sections, one for two nodes, three for the spare of one pipe, which is the section
+  -- count; one more is enough
   pub short-run-on : (x : Row) → runOnCall jobQ 0 0 (short x) leaves refusedBy 20 (short x)
   pub short-start : (x : Row) → startCall jobQ (short x) leaves refusedBy 20 (short x)
-  pub just-enough : runOnCall jobQ 0 0 (sevens 3 4) leaves record { rows = but (sevens 3 4) spare (replicate 4 (num 0)); answer = done 0 }
+  pub just-enough : runOnCall jobQ 0 0 (sevens 3 2 4) leaves record { rows = but (sevens 3 2 4) spare (replicate 4 (num 0)); answer = done 0 }
   -- the spare goes by the pipes and not by the sections: four entries for five sections in one pipe, eight for four sections in two
-  pub long-pipe : enoughLent (pipesOnly (pipe 0 1 4 (num 1) ∷ [])) (sevens 5 4) ≡ true
-  pub two-short : enoughLent (pipesOnly (pipe 0 1 1 (num 1) ∷ pipe 1 2 1 (num 1) ∷ [])) (sevens 4 7) ≡ false
-  pub two-enough : enoughLent (pipesOnly (pipe 0 1 1 (num 1) ∷ pipe 1 2 1 (num 1) ∷ [])) (sevens 4 8) ≡ true
+  pub long-pipe : enoughLent (pipesOnly (pipe 0 1 4 (num 1) ∷ [])) (sevens 5 0 4) ≡ true
+  pub two-short : enoughLent (pipesOnly (pipe 0 1 1 (num 1) ∷ pipe 1 2 1 (num 1) ∷ [])) (sevens 4 0 7) ≡ false
+  pub two-enough : enoughLent (pipesOnly (pipe 0 1 1 (num 1) ∷ pipe 1 2 1 (num 1) ∷ [])) (sevens 4 0 8) ≡ true
   -- question 21
   pub m-too-great : runOnCall jobQ 1_000_001 0 lentSevens leaves refusedBy 21 lentSevens
   pub N-too-great : runOnCall jobQ 0 1_000_001 lentSevens leaves refusedBy 21 lentSevens
@@ -111,8 +116,10 @@ pub record RefusalFigures : Type 0 where
   pub flow-not-finite : runOnCall jobQ 0 0 (holding infinity64 flows) .answer ≡ refusal 22
   pub highest-not-finite : runOnCall jobQ 0 0 (holding infinity64 highest) .answer ≡ refusal 22
   pub lowest-not-finite : runOnCall jobQ 0 0 (holding (neg infinity64) lowest) .answer ≡ refusal 22
-  pub past-the-count : runOnCall jobQ 0 0 (λ x. set (lentSevens x) (gathered 3 3 3 3 4 x) nan) .answer ≡ done 0
-  -- "The first no decides": 1 to 15 and 50, 20, 21, 22
+  pub speed-not-finite : runOnCall jobQ 0 0 (holding nan speeds) leaves refusedBy 22 (holding nan speeds)
+  pub inflow-not-finite : runOnCall jobQ 0 0 (holding infinity64 inflows) .answer ≡ refusal 22
+  pub past-the-count : runOnCall jobQ 0 0 (λ x. set (lentSevens x) (gathered 3 3 3 3 2 2 4 x) nan) .answer ≡ done 0
+  -- "The first no decides": 1 to 15, 50 and 53, 20, 21, 22
   pub fifteen-before-20 : runOnCall jobQTooOpen 0 1 (short heads) leaves refusedBy 15 (short heads)
   pub fifteen-before-20-start : startCall jobQTooOpen (short heads) leaves refusedBy 15 (short heads)
   pub fifty-before-20 : runOnCall (set jobQLongCounts 222 0) 0 1 (short heads) leaves refusedBy 50 (short heads)
@@ -153,6 +160,7 @@ twoPipes =
           ∷ initially (num 7) (num 5) low
           ∷ initially (num 7) (num 4) low
           ∷ [];
+      trips = [];
     }
 
 -- One reach of S = 0.1, no friction, from a reservoir at b to a valve at b whose w·w is infinite; at rest but for a flow at the reservoir.
@@ -162,6 +170,7 @@ outletAt b Q = record {
   nodes = node reservoir (b ∷ []) ∷ node (valve (power 400) b) (num 1 ∷ []) ∷ [];
   friction = num 0 ∷ [];
   initial = initially b Q (num 0) ∷ initially b (num 0) (num 0) ∷ [];
+  trips = [];
 }
 
 -- Three pipes that end at one junction, whose K are 2^53, 1 and 1: their sum turns on its order.
@@ -173,6 +182,7 @@ threePipes =
       nodes = node junction (num 0 ∷ []) ∷ node reservoir (num 0 ∷ []) ∷ node reservoir (num 0 ∷ []) ∷ node reservoir (num 0 ∷ []) ∷ [];
       friction = num 0 ∷ num 0 ∷ num 0 ∷ [];
       initial = initially (num 0) (power 53) (num 0) ∷ none ∷ initially (num 0) (num 1) (num 0) ∷ none ∷ initially (num 0) (num 1) (num 0) ∷ none ∷ [];
+      trips = [];
     }
 
 -- One pipe of two reaches from a reservoir at 5 to a junction, no friction.
@@ -182,6 +192,7 @@ onePipe initial = record {
   nodes = node reservoir (num 5 ∷ []) ∷ node junction (num 0 ∷ []) ∷ [];
   friction = num 0 ∷ num 0 ∷ [];
   initial = initial;
+  trips = [];
 }
 
 -- Section 1 comes to head 0 under its floor 1, with a flow that is not finite.
@@ -201,6 +212,7 @@ minusZero =
       nodes = node reservoir (neg (num 0) ∷ []) ∷ node reservoir (neg (num 0) ∷ []) ∷ [];
       friction = num 0 ∷ [];
       initial = zero ∷ zero ∷ [];
+      trips = [];
     }
 
 pub record StepFigures : Type 0 where

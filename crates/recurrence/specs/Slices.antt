@@ -13,12 +13,12 @@ abbrev pub LentSlice : Type 0
 LentSlice = Both Slice Slice
 
 -- the rows in a `requires`
-abbrev pub lent : Slice → Slice → Slice → Slice → Slice → Rows
-lent h q u l e = gathered (h .now) (q .now) (u .now) (l .now) (e .now)
+abbrev pub lent : Slice → Slice → Slice → Slice → Slice → Slice → Slice → Rows
+lent h q u l v i e = gathered (h .now) (q .now) (u .now) (l .now) (v .now) (i .now) (e .now)
 
 -- the rows in an `ensures`, as they were lent and as they are left
-abbrev pub before : LentSlice → LentSlice → LentSlice → LentSlice → LentSlice → Rows
-before h q u l e = lent (h .entry) (q .entry) (u .entry) (l .entry) (e .entry)
+abbrev pub before : LentSlice → LentSlice → LentSlice → LentSlice → LentSlice → LentSlice → LentSlice → Rows
+before h q u l v i e = lent (h .entry) (q .entry) (u .entry) (l .entry) (v .entry) (i .entry) (e .entry)
 
-abbrev pub after : LentSlice → LentSlice → LentSlice → LentSlice → LentSlice → Rows
-after h q u l e = lent (h .exit) (q .exit) (u .exit) (l .exit) (e .exit)
+abbrev pub after : LentSlice → LentSlice → LentSlice → LentSlice → LentSlice → LentSlice → LentSlice → Rows
+after h q u l v i e = lent (h .exit) (q .exit) (u .exit) (l .exit) (v .exit) (i .exit) (e .exit)

@@ -1,18 +1,19 @@
 -- One step: every section from the old state. Definitions only.
-use mathlib.Core.Bool.{cond, _&&_}
+use mathlib.Core.Bool.{Bool, cond, _&&_}
 use mathlib.Core.List.{List, [], _∷_}
 use Prim.Native.Nat.{ℕ, zero, suc, pred, _+_, _-_}
 use lib.Dec.{leb, eqb}
+use lib.ListN.{length}
 use lib.Ieee.{Float, lt}
 use Rattle.fields.specs.Real.{zero64}
 use Rattle.wave.specs.declared.Node.{Node}
 use Rattle.wave.specs.declared.Sums.{Sums}
 use Rattle.wave.specs.declared.HeadFlow.{HeadFlow}
 use Rattle.wave.specs.Wave.{fromAbove, fromBelow, inner, finishK, startK, finishEnd, startEnd, sumsOf}
-use Rattle.wave.specs.Nodes.{nodeHead}
-use Rattle.job.specs.Job.{Job, Laid, laid, sections, frictionAt, nodeAt, scheduled, withValue}
+use Rattle.wave.specs.Nodes.{nodeHead, nodeInflow, rundown}
+use Rattle.job.specs.Job.{Job, Trip, Laid, laid, sections, frictionAt, nodeAt, scheduled, withValue}
 use Rattle.loops.specs.Loops.{listed}
-use Rattle.recurrence.specs.State.{Point, State, pointAt}
+use Rattle.recurrence.specs.State.{Point, Drive, State, pointAt, driveAt, driveOf}
 
 -- ---- what a step reads, beside the layout
 
@@ -24,6 +25,20 @@ pub record AlongPipes : Type 0 where
 -- of the old state, heads and flows alone
 unfoldable pub alongPipes : Job → State → AlongPipes
 alongPipes j st = record { friction = frictionAt j; old = λ s. record { head = pointAt st s .head; flow = pointAt st s .flow } }
+
+-- what the last of a list that passes a test gives, and x where none does
+unfoldable pub lastThat : {T A : Type 0} → (T → Bool) → (T → A) → A → List T → A
+lastThat passes of x [] = x
+lastThat passes of x (t ∷ ts) = lastThat passes of (cond (passes t) (of t) x) ts
+
+-- v of a node at step n. Request 7: "from the trip step on" the rundown, "a pump not yet tripped, or in no record, has its scheduled speed"; "α and q are the
+-- speed and the pump inflow that the lent slices hold from the step before". Steps are counted from 1, so that trip step 0 acts as 1. A record names a
+-- pump, and no node stands in two (53), so that the last is the one.
+unfoldable pub valueBy : List Trip → ℕ → ℕ → Drive → Float → Float
+valueBy trips n node old v = lastThat (λ t. eqb (t .node) node && leb (t .step) n) (λ t. rundown (t .G) (t .t0) (t .t1) (old .speed) (old .inflow)) v trips
+
+unfoldable pub valueAt : Job → ℕ → State → ℕ → Float
+valueAt j n st node = valueBy (j .trips) n node (driveAt st node) (scheduled j n node)
 
 -- Each node with its value v at the step; the values are handed in.
 unfoldable pub nodesWith : Job → (ℕ → Float) → ℕ → Node
@@ -69,6 +84,10 @@ sumsAt ls w node = sumsOf (endsOf (kAtStart w) (kAtFinish w) node ls) (endsOf (�
 unfoldable pub headAt : List Laid → AlongPipes → (ℕ → Node) → ℕ → Float
 headAt ls w nodes node = nodeHead (nodes node) (sumsAt ls w node)
 
+-- what a node holds after the step: "a finished step the new pair"
+unfoldable pub newDrive : Job → List Laid → AlongPipes → (ℕ → Float) → ℕ → Drive
+newDrive j ls w v node = driveOf (nodeAt j node .kind) (v node) (nodeInflow (nodesWith j v node) (sumsAt ls w node))
+
 -- ---- the sections
 
 -- where a section stands: at offset i of a laid pipe
@@ -94,7 +113,7 @@ unfoldable pub between : AlongPipes → Laid → ℕ → HeadFlow
 between w l i = inner (l .pipe .S) (cpAfter w l i) (cmBefore w l (suc i))
 
 -- at offset i of a pipe of so many reaches: its start, its finish, or one between them
-unfoldable pub endToEnd : ℕ → HeadFlow → HeadFlow → (ℕ → HeadFlow) → ℕ → HeadFlow
+unfoldable pub endToEnd : {A : Type 0} → ℕ → A → A → (ℕ → A) → ℕ → A
 endToEnd reaches start finish inside zero = start
 endToEnd reaches start finish inside (suc i) = cond (eqb (suc i) reaches) finish (inside i)
 
@@ -124,6 +143,11 @@ updated new old = record {
 unfoldable pub newPoint : List Laid → AlongPipes → (ℕ → Node) → State → ℕ → Point
 newPoint ls w nodes st s = updated (newAt ls w nodes (located ls s)) (pointAt st s)
 
--- "A step works out every section from the old state": step n, counted from 1. "v is its scheduled value at the step."
+-- "A step works out every section from the old state": step n, counted from 1.
 unfoldable pub advanced : Job → ℕ → State → State
-advanced j n st = record { points = listed (sections j) (newPoint (laid j) (alongPipes j st) (nodesWith j (scheduled j n)) st) }
+advanced j n st =
+    let v = valueAt j n st in
+    record {
+      points = listed (sections j) (newPoint (laid j) (alongPipes j st) (nodesWith j v) st);
+      drives = listed (length (j .nodes)) (newDrive j (laid j) (alongPipes j st) v);
+    }

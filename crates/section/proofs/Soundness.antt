@@ -1,12 +1,12 @@
 -- A section is sound where its head and flow are finite and its head is not below its floor; and where every section is sound the scan finds none.
 -- Assumes nothing.
 use mathlib.Core.Path.{_≡_, refl, sym, _∙_}
-use mathlib.Core.Bool.{Bool, true, false, not, _&&_, cond}
+use mathlib.Core.Bool.{Bool, true, false, not, _&&_, cond, and-true}
 use mathlib.Core.List.{List}
 use Prim.Native.Nat.{ℕ, zero, suc, _+_, _*_, _/_, _<_, _≤_}
 use native.Mathlib.Omega.{arith}
 use lib.ListN.{length, getD}
-use lib.Ieee.{Float, nan, lt}
+use lib.Ieee.{Float, nan, lt, ofBits}
 use lib.Ieee.Scale.{finite}
 use Rattle.loops.specs.Loops.{allBelow, firstBelow}
 use Rattle.loops.proofs.All.{all-at}
@@ -16,7 +16,8 @@ use Rattle.job.specs.Format.{sectionIn}
 use Rattle.job.specs.Questions.{finiteSection, sectionFits, initialFits}
 use Rattle.loops.proofs.Tests.{both}
 use Rattle.job.proofs.SectionLaws.{finite-section}
-use Rattle.recurrence.specs.Scan.{Fault, none, fault, notFinite, parted, faultOf, earlier, acceptableAt}
+use Rattle.recurrence.specs.State.{noDrive}
+use Rattle.recurrence.specs.Scan.{Fault, none, fault, notFinite, parted, finitePoint, finiteDrive, faultOf, earlier, acceptableAt}
 use Rattle.section.specs.Faults.{floorIn, headFlowPoint, faultWith, isSound, soundWith, acceptableIn}
 use Rattle.section.proofs.Entries.{read}
 
@@ -37,9 +38,9 @@ sound-by true true s = refl
 sound-by true false s = refl
 sound-by false b s = refl
 
-pub sound-is : (floor head flow : Float) (s : ℕ) → isSound (faultOf floor s (headFlowPoint head flow)) ≡ (finite head && finite flow) && not (lt head floor)
-unfolding faultOf
-sound-is floor head flow s = sound-by (finite head && finite flow) (lt head floor) s
+pub sound-is : (floor head flow : Float) (s : ℕ) → isSound (faultOf floor s (headFlowPoint head flow) noDrive) ≡ (finite head && finite flow) && not (lt head floor)
+unfolding faultOf finitePoint finiteDrive noDrive ofBits
+sound-is floor head flow s = rw (and-true (finite head && finite flow)) (sound-by (finite head && finite flow) (lt head floor) s)
 
 -- a section's number does not matter
 pub sound-any : (floor : Float) (s : ℕ) (x : HeadFlow) → isSound (faultWith floor s x) ≡ soundWith floor x

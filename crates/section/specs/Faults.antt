@@ -10,7 +10,7 @@ use Rattle.fields.specs.Real.{zero64}
 use Rattle.wave.specs.declared.HeadFlow.{HeadFlow}
 use Rattle.job.specs.Format.{sectionIn}
 use Rattle.job.specs.Questions.{initialFits}
-use Rattle.recurrence.specs.State.{Point}
+use Rattle.recurrence.specs.State.{Point, noDrive}
 use Rattle.recurrence.specs.Scan.{Fault, none, fault, notFinite, parted, faultOf, earlier, acceptableAt}
 use Rattle.section.specs.declared.findings.Scan.{Scan}
 use Rattle.section.specs.declared.findings.Scan.the-variants.{Sound, NotFinite, Parted}
@@ -24,9 +24,9 @@ floorIn initial s = sectionIn initial s .floor
 abbrev pub headFlowPoint : Float → Float → Point
 headFlowPoint head flow = record { head = head; flow = flow; highest = zero64; lowest = zero64 }
 
--- what a section with this floor, head and flow shows
+-- what a section with this floor, head and flow shows; a node whose pair is not finite hands plus infinity to its ends as their head, so no pair is asked
 abbrev pub faultWith : Float → ℕ → HeadFlow → Fault
-faultWith floor s x = faultOf floor s (headFlowPoint (x .head) (x .flow))
+faultWith floor s x = faultOf floor s (headFlowPoint (x .head) (x .flow)) noDrive
 
 -- whether there is no fault
 unfoldable pub isSound : Fault → Bool

@@ -105,7 +105,7 @@ pub fn floor_at(initial: &[u8], s: usize) -> f64
 
 // Whether two numbers are finite, without a branch: x - x is +0 where x is finite, else a NaN, which
 // equals nothing.
-fn both_finite(x: f64, y: f64) -> bool
+pub fn both_finite(x: f64, y: f64) -> bool
     ensures { λ r. ⌜ r ≡ finite x && finite y ⌝ }
 {
     x - x == y - y

@@ -8,6 +8,7 @@ unfolding opened
 job-figures = record {
   job-Q = refl;
   six-pairs = refl;
+  seven-pairs = refl;
   two-pipes = refl;
   below-floor = refl;
   no-flow = refl;
@@ -25,5 +26,6 @@ job-figures = record {
   fifty-one-first-flow = refl;
   fifteen-first = refl;
   fifty-first = refl;
+  fifty-three-first = refl;
   one-first = refl;
 }

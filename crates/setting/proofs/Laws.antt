@@ -55,7 +55,7 @@ module _ (bytes : List ℕ) (L Q : Float) (heads flows : List Float) where
 
   -- what an answer tells: of the tests, or of the number of a refusal
   abbrev pub Tells : Answer → Type 0
-  Tells (refused q) = (1 ≤ q) × (q ≤ 52)
+  Tells (refused q) = (1 ≤ q) × (q ≤ 53)
   Tells none = AllYes false
   Tells (coefficient a) = AllYes true
 

@@ -81,6 +81,7 @@ chain pipes junctions friction b floors = record {
   nodes = node reservoir (num 42 ∷ []) ∷ junctions ++ node (valve (num 3) b) (num 1 ∷ []) ∷ [];
   friction = friction;
   initial = map over floors;
+  trips = [];
 }
 
 abbrev pub still : ScheduledNode

@@ -1,6 +1,6 @@
 -- Figures of the call on bytes, as statements about the definition; they are proved in proofs/JobFigures.antt. Definitions only.
 use mathlib.Core.Path.{_≡_}
-use mathlib.Core.List.{List, [], _∷_, map}
+use mathlib.Core.List.{List, [], _∷_, _++_, map}
 use Prim.Native.Nat.{ℕ}
 use lib.ListN.{set, take, replicate}
 use lib.Ieee.{Float, nan, neg}
@@ -8,6 +8,7 @@ use Rattle.fields.specs.Real.{infinity64}
 use Rattle.wave.specs.Figures.{num, tenths, bits}
 use Rattle.job.specs.JobQ.{jobQ}
 use Rattle.job.specs.SixPairs.{jobQLongCounts}
+use Rattle.job.specs.SevenPairs.{jobQEmptyTrips}
 use Rattle.setting.specs.Setting.{Answer, refused, none, coefficient, Called, setValve}
 use Rattle.setting.specs.ChainJob.{chainJob}
 use Rattle.setting.specs.Figures.{_ends_, lentHeads, lentFlows, written, kept, twoHeads}
@@ -28,7 +29,7 @@ abbrev pub notFinite : List Float
 notFinite = nan ∷ infinity64 ∷ neg infinity64 ∷ []
 
 -- Job Q the other way round, from the valve to the reservoir; the chain with a draw-off of 2 as its junction's last entry; job Q with its opening 2, which
--- question 15 refuses; with a count of 0 in table 6, which question 50 refuses.
+-- question 15 refuses; with a count of 0 in table 6, which question 50 refuses; with a trip of its reservoir in table 7, which question 53 refuses.
 abbrev pub backward : List ℕ
 backward = set (set jobQ 46 1) 47 0
 
@@ -41,10 +42,14 @@ tooOpen = set jobQ 213 64
 abbrev pub noCount : List ℕ
 noCount = set jobQLongCounts 222 0
 
+abbrev pub noPump : List ℕ
+noPump = set jobQEmptyTrips 58 30 ++ replicate 30 0
+
 pub record JobFigures : Type 0 where
-  -- job Q is a chain: 4/root(10 - 6); as six pairs too
+  -- job Q is a chain: 4/root(10 - 6); as six and as seven pairs too
   pub job-Q : calledFor 3 jobQ (num 10) (num 4) ends written (num 10 ∷ num 10 ∷ num 10 ∷ []) (num 4) (num 2)
   pub six-pairs : calledFor 3 jobQLongCounts (num 10) (num 4) ends written (num 10 ∷ num 10 ∷ num 10 ∷ []) (num 4) (num 2)
+  pub seven-pairs : calledFor 3 jobQEmptyTrips (num 10) (num 4) ends written (num 10 ∷ num 10 ∷ num 10 ∷ []) (num 4) (num 2)
   -- the level is the caller's, not the 42 of the schedule; every head lies on its floor
   pub two-pipes : calledFor 7 chainJob (num 100) (num 2) ends written twoHeads (num 2) (tenths 4)
   pub below-floor : calledFor 7 chainJob (bits 0x4058_ffff_ffff_ffff) (num 2) ends kept 7 none
@@ -62,9 +67,10 @@ pub record JobFigures : Type 0 where
   pub just-enough : calledWith 3 3 jobQ (num 10) (num 4) ends record { heads = replicate 3 (num 10); flows = replicate 3 (num 4); answer = coefficient (num 2) }
   -- 52 also where there would be none
   pub short-no-flow : calledWith 2 3 jobQ (num 10) (num 0) ends rowsOf 2 3 (refused 52)
-  -- the order: 1 to 15 and 50, 51, 52
+  -- the order: 1 to 15, 50 and 53; 51; 52
   pub fifty-one-first : calledWith 2 3 backward (num 10) (num 4) ends rowsOf 2 3 (refused 51)
   pub fifty-one-first-flow : calledWith 3 2 jobQ (num 10) infinity64 ends rowsOf 3 2 (refused 51)
   pub fifteen-first : calledWith 0 0 tooOpen nan (num 4) ends rowsOf 0 0 (refused 15)
   pub fifty-first : calledWith 0 0 noCount nan (num 4) ends rowsOf 0 0 (refused 50)
+  pub fifty-three-first : calledWith 0 0 noPump nan (num 4) ends rowsOf 0 0 (refused 53)
   pub one-first : calledWith 0 0 (take 45 jobQ) nan (num 4) ends rowsOf 0 0 (refused 1)

@@ -6,10 +6,11 @@ use Prim.Native.Nat.{ℕ, _+_, _*_, _<_}
 use lib.ListN.{getD, set}
 use lib.Ieee.{Float, nan}
 use Rattle.wave.specs.declared.HeadFlow.{HeadFlow}
+use Rattle.wave.specs.declared.Node.{Node}
 use Rattle.wave.specs.Wave.{startEnd, finishEnd}
 use Rattle.job.specs.Job.{Laid, laid}
 use Rattle.job.specs.Format.{jobOf, pipeTable, pipeCount}
-use Rattle.recurrence.specs.Step.{nodesWith, kAtStart, kAtFinish, atStart, atFinish}
+use Rattle.recurrence.specs.Step.{kAtStart, kAtFinish, atStart, atFinish}
 use Rattle.pipe_layout.specs.Layout.{LaidAt}
 use Rattle.node_sums.specs.FromRows.{alongRows}
 
@@ -49,9 +50,9 @@ pub record EndsByKTo (job : List ℕ) (nodes before after : List Float) (m : ℕ
 abbrev pub EndsByK : List ℕ → List Float → List Float → List Float → Type 0
 EndsByK job nodes before after = EndsByKTo job nodes before after (pipeCount (pipeTable job))
 
--- the new head and flow at the ends of every pipe, where v has the value of each node
-pub record EndsIn (job : List ℕ) (v : ℕ → Float) (heads flows spare : List Float) : Type 0 where
+-- the new head and flow at the ends of every pipe, by the nodes
+pub record EndsIn (job : List ℕ) (nodes : ℕ → Node) (heads flows spare : List Float) : Type 0 where
   pub at-start : (p : ℕ) (l : Laid) → LaidAt job p l
-      → endIn spare (p * 4) ≡ atStart (laid (jobOf job)) (alongRows job heads flows) (nodesWith (jobOf job) v) l
+      → endIn spare (p * 4) ≡ atStart (laid (jobOf job)) (alongRows job heads flows) nodes l
   pub at-finish : (p : ℕ) (l : Laid) → LaidAt job p l
-      → endIn spare (p * 4 + 2) ≡ atFinish (laid (jobOf job)) (alongRows job heads flows) (nodesWith (jobOf job) v) l
+      → endIn spare (p * 4 + 2) ≡ atFinish (laid (jobOf job)) (alongRows job heads flows) nodes l

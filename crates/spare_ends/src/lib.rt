@@ -20,8 +20,9 @@ pub fn end_at(spare: &[f64], at: usize) -> HeadFlow
 }
 
 // The new head and flow at both ends of pipe p, which is l, from K in the spare; nodes has H of each node.
-pub fn pipe_ends(l: Laid, p: usize, nodes: &[f64; 32], spare: &mut [f64])
-    requires { ⌜ (l .start < 32) × (l .finish < 32) × (p * 4 + 4 ≤ length (now spare)) ⌝ }
+pub fn pipe_ends(l: Laid, p: usize, nodes: &[f64], spare: &mut [f64])
+    requires { ⌜ (l .start < length (now nodes)) × (l .finish < length (now nodes))
+        × (p * 4 + 4 ≤ length (now spare)) ⌝ }
     ensures { λ _. ⌜ now (spare .exit) ≡ withEnds (now (spare .entry)) (p * 4)
         (startBy (now (nodes .entry)) (now (spare .entry)) p (laidOf l))
         (finishBy (now (nodes .entry)) (now (spare .entry)) p (laidOf l)) ⌝ }

@@ -6,6 +6,7 @@ use native.Mathlib.Omega.{arith}
 use borrow.Author.Tests.{eq-eqb, ne-eqb}
 use lib.Ieee.{Float}
 use Rattle.wave.specs.declared.HeadFlow.{HeadFlow}
+use Rattle.wave.specs.declared.Node.{Node}
 use Rattle.job.specs.Job.{Laid}
 use Rattle.job.specs.Format.{jobOf}
 use Rattle.recurrence.specs.Step.{between, endToEnd, newIn, newAt}
@@ -40,8 +41,8 @@ module _ (job : List ℕ) (l : Laid) (spare : List Float) (at : ℕ) (heads flow
 
 -- ---- the sections of a step
 
-module _ (job : List ℕ) (v : ℕ → Float) (heads flows spare : List Float) (ends : EndsIn job v heads flows spare) (p : ℕ) (l : Laid) (is : LaidAt job p l) where
-  pub by-spare : (i : ℕ) → i ≤ l .pipe .reaches → newBySpare job l spare (p * 4) heads flows i ≡ newSection job v heads flows (l .firstSection + i)
+module _ (job : List ℕ) (nodes : ℕ → Node) (heads flows spare : List Float) (ends : EndsIn job nodes heads flows spare) (p : ℕ) (l : Laid) (is : LaidAt job p l) where
+  pub by-spare : (i : ℕ) → i ≤ l .pipe .reaches → newBySpare job l spare (p * 4) heads flows i ≡ newSection job nodes heads flows (l .firstSection + i)
   unfolding newSection newAt newIn
   by-spare i h =
       ap₂ (λ (start finish : HeadFlow). endToEnd (l .pipe .reaches) start finish (between (alongRows job heads flows) l) i) (ends .at-start p l is) (ends .at-finish p l is)

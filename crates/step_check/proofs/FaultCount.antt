@@ -9,6 +9,7 @@ use native.Mathlib.Numerals.{add-one}
 use native.Mathlib.Omega.{arith}
 use lib.Dec.{eqb}
 use lib.Ieee.{Float}
+use Rattle.wave.specs.declared.Node.{Node}
 use Rattle.loops.specs.Loops.{allBelow}
 use Rattle.job.specs.Job.{Laid}
 use Rattle.job.specs.Format.{initialTable}
@@ -69,17 +70,17 @@ module _ (job : List ℕ) (l : Laid) (spare : List Float) (at : ℕ) (heads flow
 
 -- where the spare has the ends of a step, and the walk is at the pipe's first section
 pub pipe-sound :
-    (job : List ℕ) (v : ℕ → Float) (heads flows spare : List Float) → EndsIn job v heads flows spare → (p : ℕ) (l : Laid) → LaidAt job p l
+    (job : List ℕ) (nodes : ℕ → Node) (heads flows spare : List Float) → EndsIn job nodes heads flows spare → (p : ℕ) (l : Laid) → LaidAt job p l
     → 1 ≤ l .pipe .reaches → {first : ℕ} → l .firstSection ≡ first → (x y : ℕ)
     → eqb x 0 ≡ allBelow (λ i. soundWith (floorIn (initialTable job) (l .firstSection + suc i)) (between (alongRows job heads flows) l i)) (l .pipe .reaches - 1)
     → y ≡ counted (floorIn (initialTable job) (l .firstSection)) (endIn spare (p * 4)) + counted (floorIn (initialTable job) (l .firstSection + l .pipe .reaches)) (endIn spare (p * 4 + 2))
-    → eqb (x + y) 0 ≡ allBelow (λ i. isSound (faultAt (initialTable job) (newSection job v heads flows) (first + i))) (l .pipe .reaches + 1)
+    → eqb (x + y) 0 ≡ allBelow (λ i. isSound (faultAt (initialTable job) (newSection job nodes heads flows) (first + i))) (l .pipe .reaches + 1)
 unfolding faultAt
-pipe-sound job v heads flows spare ends p l is some e x y ex ey =
+pipe-sound job nodes heads flows spare ends p l is some e x y ex ey =
     judged-by-spare job l spare (p * 4) heads flows some x y ex ey
     ∙ rw (← e)
     (all-cong (l .pipe .reaches + 1) _ _
     (λ i b.
     let s = l .firstSection + i in
-    ap (soundWith (floorIn (initialTable job) s)) (by-spare job v heads flows spare ends p l is i (omega arith))
-    ∙ sym (sound-any (floorIn (initialTable job) s) s (newSection job v heads flows s))))
+    ap (soundWith (floorIn (initialTable job) s)) (by-spare job nodes heads flows spare ends p l is i (omega arith))
+    ∙ sym (sound-any (floorIn (initialTable job) s) s (newSection job nodes heads flows s))))

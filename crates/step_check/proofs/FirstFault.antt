@@ -6,6 +6,7 @@ use Prim.Native.Nat.{ℕ, zero, suc, _+_, _-_, _*_, _≤_}
 use native.Mathlib.Nat.{add-zero, add-suc}
 use native.Mathlib.Omega.{arith}
 use lib.Ieee.{Float}
+use Rattle.wave.specs.declared.Node.{Node}
 use Rattle.loops.specs.Loops.{firstBelow}
 use Rattle.wave.specs.declared.HeadFlow.{HeadFlow}
 use Rattle.job.specs.Job.{Laid}
@@ -55,14 +56,14 @@ fault-by-spare job l spare at heads flows i ef ez ex = ef ∙ rw (ez, ex)
 
 -- such a pipe, where the spare has those of a step, and the walk is at the pipe's first section
 pub pipe-searched :
-    (job : List ℕ) (v : ℕ → Float) (heads flows spare : List Float) → EndsIn job v heads flows spare → (p : ℕ) (l : Laid) → LaidAt job p l
+    (job : List ℕ) (nodes : ℕ → Node) (heads flows spare : List Float) → EndsIn job nodes heads flows spare → (p : ℕ) (l : Laid) → LaidAt job p l
     → {first : ℕ} → l .firstSection ≡ first → {f : Fault} → f ≡ firstBelow earlier none (faultBySpare job l spare (p * 4) heads flows) (l .pipe .reaches + 1)
-    → f ≡ firstBelow earlier none (λ i. faultAt (initialTable job) (newSection job v heads flows) (first + i)) (l .pipe .reaches + 1)
+    → f ≡ firstBelow earlier none (λ i. faultAt (initialTable job) (newSection job nodes heads flows) (first + i)) (l .pipe .reaches + 1)
 unfolding faultAt
-pipe-searched job v heads flows spare ends p l is e ef =
+pipe-searched job nodes heads flows spare ends p l is e ef =
     ef
     ∙ rw (← e)
     (first-cong earlier none (l .pipe .reaches + 1) _ _
     (λ i b.
     let s = l .firstSection + i in
-    ap (faultWith (floorIn (initialTable job) s) s) (by-spare job v heads flows spare ends p l is i (omega arith))))
+    ap (faultWith (floorIn (initialTable job) s) s) (by-spare job nodes heads flows spare ends p l is i (omega arith))))

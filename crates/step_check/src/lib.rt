@@ -3,8 +3,8 @@ ghost use mathlib.Core.Path.{_≡_};
 ghost use Prim.Native.Nat.{ℕ, suc, _+_, _-_, _*_, _<_, _≤_};
 ghost use lib.Dec.{eqb};
 ghost use lib.ListN.{length};
-ghost use lib.Ieee.{Float};
 ghost use Rattle.loops.specs.Loops.{allBelow, firstBelow};
+ghost use Rattle.wave.specs.declared.Node.{Node};
 ghost use Rattle.job.specs.Job.{sections};
 ghost use Rattle.job.specs.Format.{jobOf, pipeTable, initialTable, pipeCount};
 ghost use Rattle.job.specs.Questions.{Accepted};
@@ -73,9 +73,9 @@ fn end_faults(job: &[u8], l: Laid, at: usize, spare: &[f64]) -> u64
 fn faults(job: &[u8], heads: &[f64], flows: &[f64], spare: &[f64]) -> u64
     requires { ⌜ (Lent (now job) (now heads) (now flows))
         × (pipeCount (pipeTable (now job)) * 4 ≤ length (now spare)) ⌝ }
-    ensures { λ r. ⌜ ((v : ℕ → Float) → EndsIn (now (job .entry)) v (now (heads .entry)) (now (flows .entry))
+    ensures { λ r. ⌜ ((nodes : ℕ → Node) → EndsIn (now (job .entry)) nodes (now (heads .entry)) (now (flows .entry))
         (now (spare .entry)) → eqb r 0 ≡ allBelow (λ s. isSound (faultAt (initialTable (now (job .entry)))
-        (newSection (now (job .entry)) v (now (heads .entry)) (now (flows .entry))) s))
+        (newSection (now (job .entry)) nodes (now (heads .entry)) (now (flows .entry))) s))
         (sections (jobOf (now (job .entry))))) ⌝ }
 {
     let count = pipe_layout::pipe_count(job);
@@ -155,10 +155,10 @@ fn first_in_pipe(job: &[u8], l: Laid, p: usize, heads: &[f64], flows: &[f64], sp
 fn first_fault(job: &[u8], heads: &[f64], flows: &[f64], spare: &[f64]) -> Scan
     requires { ⌜ (Lent (now job) (now heads) (now flows))
         × (pipeCount (pipeTable (now job)) * 4 ≤ length (now spare)) ⌝ }
-    ensures { λ r. ⌜ ((v : ℕ → Float) → EndsIn (now (job .entry)) v (now (heads .entry)) (now (flows .entry))
+    ensures { λ r. ⌜ ((nodes : ℕ → Node) → EndsIn (now (job .entry)) nodes (now (heads .entry)) (now (flows .entry))
         (now (spare .entry)) → foundFault r
         ≡ firstFault (initialTable (now (job .entry))) (sections (jobOf (now (job .entry))))
-        (newSection (now (job .entry)) v (now (heads .entry)) (now (flows .entry)))) ⌝ }
+        (newSection (now (job .entry)) nodes (now (heads .entry)) (now (flows .entry)))) ⌝ }
 {
     let count = pipe_layout::pipe_count(job);
     let mut at = Walk::begun();
@@ -180,10 +180,10 @@ fn first_fault(job: &[u8], heads: &[f64], flows: &[f64], spare: &[f64]) -> Scan
 pub fn check(job: &[u8], heads: &[f64], flows: &[f64], spare: &[f64]) -> Scan
     requires { ⌜ (Lent (now job) (now heads) (now flows))
         × (pipeCount (pipeTable (now job)) * 4 ≤ length (now spare)) ⌝ }
-    ensures { λ r. ⌜ ((v : ℕ → Float) → EndsIn (now (job .entry)) v (now (heads .entry)) (now (flows .entry))
+    ensures { λ r. ⌜ ((nodes : ℕ → Node) → EndsIn (now (job .entry)) nodes (now (heads .entry)) (now (flows .entry))
         (now (spare .entry)) → foundFault r
         ≡ firstFault (initialTable (now (job .entry))) (sections (jobOf (now (job .entry))))
-        (newSection (now (job .entry)) v (now (heads .entry)) (now (flows .entry)))) ⌝ }
+        (newSection (now (job .entry)) nodes (now (heads .entry)) (now (flows .entry)))) ⌝ }
 {
     if faults(job, heads, flows, spare) == 0 {
         return Scan::Sound;

@@ -6,6 +6,7 @@ use Prim.Native.Nat.{ℕ, zero, suc, _+_, _-_, _*_, _≤_}
 use native.Mathlib.Omega.{arith}
 use lib.Ieee.{Float}
 use Rattle.wave.specs.declared.HeadFlow.{HeadFlow}
+use Rattle.wave.specs.declared.Node.{Node}
 use Rattle.job.specs.Job.{Laid}
 use Rattle.recurrence.specs.Step.{along, cpAfter, cmBefore, between, endToEnd}
 use Rattle.section.specs.SectionRows.{entry, SteppedRows}
@@ -54,20 +55,20 @@ module _ (job : List ℕ) (heads flows nowHeads nowFlows : List Float) (l : Laid
 
 -- ---- pipe after pipe
 
-module _ (job : List ℕ) (v : ℕ → Float) (heads flows spare : List Float) (ends : EndsIn job v heads flows spare) (p : ℕ) (l : Laid) (is : LaidAt job p l) where
+module _ (job : List ℕ) (nodes : ℕ → Node) (heads flows spare : List Float) (ends : EndsIn job nodes heads flows spare) (p : ℕ) (l : Laid) (is : LaidAt job p l) where
   -- the four rows, up to this pipe and then over it; heads and flows from this pipe on are the old ones; where its ends were read is asked last
   pub pipe-more :
       {highest lowest heads₁ flows₁ highest₁ lowest₁ heads₂ flows₂ highest₂ lowest₂ : List Float} {first at : ℕ} → l .firstSection ≡ first
-      → SteppedTo (newSection job v heads flows) 0 first heads flows highest lowest heads₁ flows₁ highest₁ lowest₁
+      → SteppedTo (newSection job nodes heads flows) 0 first heads flows highest lowest heads₁ flows₁ highest₁ lowest₁
       → SteppedRows (newBySpare job l spare at heads₁ flows₁) (l .firstSection) (l .pipe .reaches + 1) heads₁ flows₁ highest₁ lowest₁ heads₂ flows₂ highest₂ lowest₂
       → at ≡ p * 4
-      → SteppedTo (newSection job v heads flows) 0 (first + l .pipe .reaches + 1) heads flows highest lowest heads₂ flows₂ highest₂ lowest₂
+      → SteppedTo (newSection job nodes heads flows) 0 (first + l .pipe .reaches + 1) heads flows highest lowest heads₂ flows₂ highest₂ lowest₂
   pipe-more {heads₁ = heads₁} {flows₁} {first = first} e u w there =
       let c : first + (l .pipe .reaches + 1) ≡ first + l .pipe .reaches + 1 = omega arith in
       rw c at
       (stepped-more u (newBySpare job l spare (p * 4) heads₁ flows₁) (l .pipe .reaches + 1) (omega arith)
       (λ i b.
       same-new job heads flows heads₁ flows₁ l (λ s k. heads-kept u s (omega arith)) (λ s k. flows-kept u s (omega arith)) spare (p * 4) i
-      ∙ by-spare job v heads flows spare ends p l is i (omega arith)
-      ∙ ap (λ (k : ℕ). newSection job v heads flows (k + i)) e)
+      ∙ by-spare job nodes heads flows spare ends p l is i (omega arith)
+      ∙ ap (λ (k : ℕ). newSection job nodes heads flows (k + i)) e)
       (rw there at w))

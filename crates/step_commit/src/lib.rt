@@ -1,7 +1,7 @@
 // The commit of a step, in place, pipe by pipe: the inner sections upward, then both ends out of the spare.
 ghost use Prim.Native.Nat.{ℕ, _+_, _-_, _*_, _<_, _≤_};
 ghost use lib.ListN.{length};
-ghost use lib.Ieee.{Float};
+ghost use Rattle.wave.specs.declared.Node.{Node};
 ghost use Rattle.job.specs.Job.{sections};
 ghost use Rattle.job.specs.Format.{jobOf, pipeTable, pipeCount};
 ghost use Rattle.recurrence.specs.Step.{between};
@@ -101,8 +101,8 @@ pub fn commit(
         × (pipeCount (pipeTable (now job)) * 4 ≤ length (now spare)) ⌝ }
     requires { ⌜ (sections (jobOf (now job)) ≤ length (now highest))
         × (sections (jobOf (now job)) ≤ length (now lowest)) ⌝ }
-    ensures { λ _. ⌜ ((v : ℕ → Float) → EndsIn (now (job .entry)) v (now (heads .entry)) (now (flows .entry))
-        (now (spare .entry)) → Stepped (newSection (now (job .entry)) v (now (heads .entry)) (now (flows .entry)))
+    ensures { λ _. ⌜ ((nodes : ℕ → Node) → EndsIn (now (job .entry)) nodes (now (heads .entry)) (now (flows .entry))
+        (now (spare .entry)) → Stepped (newSection (now (job .entry)) nodes (now (heads .entry)) (now (flows .entry)))
         0 (sections (jobOf (now (job .entry)))) heads flows highest lowest) ⌝ }
 {
     let count = pipe_layout::pipe_count(job);

@@ -12,10 +12,11 @@ use Rattle.fields.specs.Real.{zero64}
 use Rattle.loops.specs.Loops.{listed}
 use Rattle.loops.specs.Fill.{fill}
 use Rattle.job.specs.Job.{Job, sections, initialAt}
-use Rattle.job.specs.Format.{jobOf, listingSteps, pipeTable, pipeCount}
+use Rattle.job.specs.Format.{jobOf, listingSteps, pipeTable, nodeTable, pipeCount, nodeCount}
 use Rattle.reader.specs.Answer as Read
 use Rattle.job.specs.Questions.{refusal, Accepted}
-use Rattle.recurrence.specs.State.{Point, State, startPoint, startState}
+use Rattle.job.proofs.Accepted.{nodes-length}
+use Rattle.recurrence.specs.State.{Point, Drive, State, startPoint, startDrive, startState}
 use Rattle.recurrence.specs.Scan.{acceptable}
 use Rattle.recurrence.specs.Run.{Result, refused, ran, completed, answerOf, ask, started, start, steps, withinLimit, runOn}
 use Rattle.recurrence.specs.Calls as row
@@ -133,22 +134,28 @@ module _ (job : List ℕ) (r : Rows) (ok : Accepted job) where
   unfolding holds
   spare-left st base long rest cleared = filled-left st row.spare _ base (sym (four-a-pipe job ok)) long rest cleared (listed-same _ _)
 
-  -- the start: the initial heads and flows, and the spare cleared
-  pub begun : {n : ℕ} → n ≡ sections accepted → (long : Enough accepted r) {heads flows highest lowest spare : List Float}
+  -- the start: the initial heads and flows, the pairs, and the spare cleared
+  pub begun : {n : ℕ} → n ≡ sections accepted → (long : Enough accepted r) {heads flows highest lowest speeds inflows spare : List Float}
       → heads ≡ fill (λ s. initialAt accepted s .head) (r row.heads) 0 n → flows ≡ fill (λ s. initialAt accepted s .flow) (r row.flows) 0 n
       → highest ≡ fill (λ s. initialAt accepted s .head) (r row.highest) 0 n → lowest ≡ fill (λ s. initialAt accepted s .head) (r row.lowest) 0 n
+      → speeds ≡ fill (λ y. startDrive accepted y .speed) (r row.speeds) 0 (nodeCount (nodeTable job))
+      → inflows ≡ fill (λ y. startDrive accepted y .inflow) (r row.inflows) 0 (nodeCount (nodeTable job))
       → spare ≡ fill (λ s. zero64) (r row.spare) 0 (pipeCount (pipeTable job) * 4)
-      → callLeaves (gathered heads flows highest lowest spare) (Done 0) ≡ called job r (ran (started accepted) completed)
+      → callLeaves (gathered heads flows highest lowest speeds inflows spare) (Done 0) ≡ called job r (ran (started accepted) completed)
   unfolding called rowsAfter holds answerOf paperAnswer started startState startPoint
-  begun count long {heads} {flows} {highest} {lowest} {spare} eh eq eu el es =
+  begun count long {heads} {flows} {highest} {lowest} {speeds} {inflows} {spare} eh eq eu el ev ei es =
       let st = startState accepted in
+      let nodes = sym (nodes-length job ok) in
+      let pairs : (f : Drive → Float) → listed (length (accepted .nodes)) (λ y. f (startDrive accepted y)) ≡ map f (st .drives) = λ f. sym (map-listed f _ _) in
       let initial : (f : Point → Float) → listed (sections accepted) (λ s. f (startPoint (initialAt accepted s))) ≡ map f (st .points) = λ f. sym (map-listed f _ _) in
-      let e : (x : Row) → gathered heads flows highest lowest spare x ≡ rowsOf accepted st r x =
+      let e : (x : Row) → gathered heads flows highest lowest speeds inflows spare x ≡ rowsOf accepted st r x =
       each _
       (filled-left st row.heads _ _ count (long row.heads) refl eh (initial (λ p. p .head)))
       (filled-left st row.flows _ _ count (long row.flows) refl eq (initial (λ p. p .flow)))
       (filled-left st row.highest _ _ count (long row.highest) refl eu (initial (λ p. p .highest)))
       (filled-left st row.lowest _ _ count (long row.lowest) refl el (initial (λ p. p .lowest)))
+      (filled-left st row.speeds _ _ nodes (long row.speeds) refl ev (pairs (λ d. d .speed)))
+      (filled-left st row.inflows _ _ nodes (long row.inflows) refl ei (pairs (λ d. d .inflow)))
       (spare-left st _ (long row.spare) refl es) in
       λ i. record { rows = λ x. e x i; answer = record { number = 0; steps = 0; section = 0 } }
 
@@ -156,13 +163,13 @@ module _ (job : List ℕ) (r : Rows) (ok : Accepted job) where
   module _ (a : Rows) (rest : SameRest accepted r a) (long : Enough accepted a) (x : Result) (ended : Ended) (is : resultOf ended (stateIn accepted a) ≡ x) where
     pub run-left : (answer : Answer) {spare : List Float} → paperAnswer answer ≡ answerOf (resultOf ended (stateIn accepted a))
         → spare ≡ fill (λ s. zero64) (a row.spare) 0 (pipeCount (pipeTable job) * 4)
-        → callLeaves (gathered (a row.heads) (a row.flows) (a row.highest) (a row.lowest) spare) answer ≡ called job r x
+        → callLeaves (gathered (a row.heads) (a row.flows) (a row.highest) (a row.lowest) (a row.speeds) (a row.inflows) spare) answer ≡ called job r x
     unfolding called rowsAfter resultOf holds
     run-left answer {spare} e es =
         let st = stateIn accepted a in
         let kept : (y : Row) → carried y ≡ true → a y ≡ rowsOf accepted st r y =
         λ y k. row-left accepted st r y (a y) (state-held accepted a long y k) (rest y) in
-        let rows : (y : Row) → gathered (a row.heads) (a row.flows) (a row.highest) (a row.lowest) spare y ≡ rowsOf accepted st r y =
-        each _ (kept row.heads refl) (kept row.flows refl) (kept row.highest refl) (kept row.lowest refl)
+        let rows : (y : Row) → gathered (a row.heads) (a row.flows) (a row.highest) (a row.lowest) (a row.speeds) (a row.inflows) spare y ≡ rowsOf accepted st r y =
+        each _ (kept row.heads refl) (kept row.flows refl) (kept row.highest refl) (kept row.lowest refl) (kept row.speeds refl) (kept row.inflows refl)
         (spare-left st _ (long row.spare) (rest row.spare) es) in
         rw (← is) (λ i. record { rows = λ y. rows y i; answer = e i })

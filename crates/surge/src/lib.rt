@@ -15,6 +15,7 @@ mod answer;
 pub use answer::Answer;
 pub use answer::Numbers;
 pub use answer::numbers_of;
+use call_questions::Lengths;
 use reader::Read;
 use section::Scan;
 use time_step::Ended;
@@ -39,14 +40,18 @@ fn begin(
     flows: &mut [f64],
     highest: &mut [f64],
     lowest: &mut [f64],
+    speeds: &mut [f64],
+    inflows: &mut [f64],
     spare: &mut [f64],
 ) -> Answer
-    requires { ⌜ (Ready (now job) (lent heads flows highest lowest spare)) × (n ≡ sections (jobOf (now job))) ⌝ }
-    ensures { λ r. ⌜ callLeaves (after heads flows highest lowest spare) r
-        ≡ called (now (job .entry)) (before heads flows highest lowest spare)
+    requires { ⌜ (Ready (now job) (lent heads flows highest lowest speeds inflows spare))
+        × (n ≡ sections (jobOf (now job))) ⌝ }
+    ensures { λ r. ⌜ callLeaves (after heads flows highest lowest speeds inflows spare) r
+        ≡ called (now (job .entry)) (before heads flows highest lowest speeds inflows spare)
         (ran (started (jobOf (now (job .entry)))) completed) ⌝ }
 {
     call_rows::write_start(job, n, heads, flows, highest, lowest);
+    call_rows::start_pairs(job, speeds, inflows);
     call_rows::clear_spare(job, spare);
     Answer::Done(0)
 }
@@ -58,19 +63,23 @@ pub fn start(
     flows: &mut [f64],
     highest: &mut [f64],
     lowest: &mut [f64],
+    speeds: &mut [f64],
+    inflows: &mut [f64],
     spare: &mut [f64],
 ) -> Answer
-    ensures { λ r. ⌜ callLeaves (after heads flows highest lowest spare) r
-        ≡ startCall (now (job .entry)) (before heads flows highest lowest spare) ⌝ }
+    ensures { λ r. ⌜ callLeaves (after heads flows highest lowest speeds inflows spare) r
+        ≡ startCall (now (job .entry)) (before heads flows highest lowest speeds inflows spare) ⌝ }
 {
-    let read = call_questions::read_and_enough(
-        job,
-        heads.len(),
-        flows.len(),
-        highest.len(),
-        lowest.len(),
-        spare.len(),
-    );
+    let lengths = Lengths {
+        heads: heads.len(),
+        flows: flows.len(),
+        highest: highest.len(),
+        lowest: lowest.len(),
+        speeds: speeds.len(),
+        inflows: inflows.len(),
+        spare: spare.len(),
+    };
+    let read = call_questions::read_and_enough(job, lengths);
     match read {
         Read::Refused(q) => Answer::Refused(q),
         Read::Accepted { sections, steps: _ } => begin(
@@ -80,6 +89,8 @@ pub fn start(
             flows,
             highest,
             lowest,
+            speeds,
+            inflows,
             spare,
         ),
     }
@@ -94,15 +105,29 @@ fn carry_on(
     flows: &mut [f64],
     highest: &mut [f64],
     lowest: &mut [f64],
+    speeds: &mut [f64],
+    inflows: &mut [f64],
     spare: &mut [f64],
 ) -> Answer
-    requires { ⌜ (Ready (now job) (lent heads flows highest lowest spare)) × (done + count ≤ 1000000) ⌝ }
+    requires { ⌜ (Ready (now job) (lent heads flows highest lowest speeds inflows spare))
+        × (done + count ≤ 1000000) ⌝ }
     ensures { λ r. ⌜ (let j = jobOf (now (job .entry)) in
-        let old = before heads flows highest lowest spare in
-        callLeaves (after heads flows highest lowest spare) r
+        let old = before heads flows highest lowest speeds inflows spare in
+        callLeaves (after heads flows highest lowest speeds inflows spare) r
         ≡ called (now (job .entry)) old (steps j count done (stateIn j old))) ⌝ }
 {
-    let ended = time_step::run(job, done, count, heads, flows, highest, lowest, spare);
+    let ended = time_step::run(
+        job,
+        done,
+        count,
+        heads,
+        flows,
+        highest,
+        lowest,
+        speeds,
+        inflows,
+        spare,
+    );
     call_rows::clear_spare(job, spare);
     answer_of(ended)
 }
@@ -116,31 +141,55 @@ pub fn run_on(
     flows: &mut [f64],
     highest: &mut [f64],
     lowest: &mut [f64],
+    speeds: &mut [f64],
+    inflows: &mut [f64],
     spare: &mut [f64],
 ) -> Answer
-    ensures { λ r. ⌜ callLeaves (after heads flows highest lowest spare) r
-        ≡ runOnCall (now (job .entry)) done count (before heads flows highest lowest spare) ⌝ }
+    ensures { λ r. ⌜ callLeaves (after heads flows highest lowest speeds inflows spare) r
+        ≡ runOnCall (now (job .entry)) done count (before heads flows highest lowest speeds inflows spare) ⌝ }
 {
-    let read = call_questions::read_and_enough(
-        job,
-        heads.len(),
-        flows.len(),
-        highest.len(),
-        lowest.len(),
-        spare.len(),
-    );
+    let lengths = Lengths {
+        heads: heads.len(),
+        flows: flows.len(),
+        highest: highest.len(),
+        lowest: lowest.len(),
+        speeds: speeds.len(),
+        inflows: inflows.len(),
+        spare: spare.len(),
+    };
+    let read = call_questions::read_and_enough(job, lengths);
     match read {
         Read::Refused(q) => Answer::Refused(q),
         Read::Accepted { sections, steps: _ } => {
             let limit = call_questions::within_limit(done, count);
-            let fit = call_questions::acceptable(job, sections, heads, flows, highest, lowest);
+            let fit = call_questions::acceptable(
+                job,
+                sections,
+                heads,
+                flows,
+                highest,
+                lowest,
+                speeds,
+                inflows,
+            );
             if !limit {
                 return Answer::Refused(21);
             }
             if !fit {
                 return Answer::Refused(22);
             }
-            carry_on(job, done, count, heads, flows, highest, lowest, spare)
+            carry_on(
+                job,
+                done,
+                count,
+                heads,
+                flows,
+                highest,
+                lowest,
+                speeds,
+                inflows,
+                spare,
+            )
         }
     }
 }

@@ -1,4 +1,4 @@
--- What the program's calls write is a job's listing: a refused job's closing line alone; else rows of 512 entries pass question 20 and the listing's
+-- What the program's calls write is a job's listing: a refused job's closing line alone; else rows that hold every job pass question 20 and the listing's
 -- steps question 21, the run-on goes from the start's rows, and the rows that it leaves hold, section by section, the state that the run left.
 -- Assumes nothing.
 use mathlib.Core.Path.{_≡_, refl, ap, ap₂, _∙_}
@@ -13,7 +13,7 @@ use Rattle.fields.specs.Real.{zero64}
 use Rattle.job.specs.Job.{Job, sections}
 use Rattle.job.specs.Format.{listingSteps, jobOf}
 use Rattle.job.specs.Questions.{refusal, stepsFit, Accepted}
-use Rattle.job.proofs.Accepted.{tables-right, pipe-limits, section-limit}
+use Rattle.job.proofs.Accepted.{tables-right, pipe-limits, node-limits, section-limit}
 use Rattle.recurrence.specs.State.{pointAt, startState}
 use Rattle.recurrence.specs.Run.{refused, ran, Answer, answerOf, ask, withinLimit, started, start, runOn}
 use Rattle.recurrence.specs.Calls.{heads, flows, highest, lowest, Rows, gathered, enoughLent, pointIn, stateIn, rowsOf, rowsAfter, Called, readFirst, called, startResult, startCall, runOnResult, runOnCall}
@@ -47,9 +47,9 @@ row-point r long s l =
 
 -- ---- what is written
 
--- the five rows that a call leaves, as its place in a proof has them
-abbrev pub rowsLeft : {X : Type 0} → List Float × (List Float × (List Float × (List Float × (List Float × X)))) → Rows
-rowsLeft l = gathered (l .0) (l .1 .0) (l .1 .1 .0) (l .1 .1 .1 .0) (l .1 .1 .1 .1 .0)
+-- the rows that a call leaves, as its place in a proof has them
+abbrev pub rowsLeft : {X : Type 0} → List Float × (List Float × (List Float × (List Float × (List Float × (List Float × (List Float × X)))))) → Rows
+rowsLeft l = gathered (l .0) (l .1 .0) (l .1 .1 .0) (l .1 .1 .1 .0) (l .1 .1 .1 .1 .0) (l .1 .1 .1 .1 .1 .0) (l .1 .1 .1 .1 .1 .1 .0)
 
 -- one text at the front of a slice is another, where the two are equal
 pub front-is : {t u held left : List ℕ} {n : ℕ} → AtFront t held n left → t ≡ u → AtFront u held n left
@@ -78,12 +78,13 @@ module _ (job : List ℕ) (ok : Accepted job) where
   abbrev j : Job
   j = jobOf job
 
-  -- questions 20 and 21, by questions 4, 5 and 8
+  -- questions 20 and 21, by questions 4, 5, 6 and 8
   long-enough : (r : Rows) → Long r → enoughLent j r ≡ true
   long-enough r l =
       let n = section-limit job ok in
       let p = pipe-limits job ok .1 in
-      each-enough j r (each _ (omega arith) (omega arith) (omega arith) (omega arith) (omega arith))
+      let y = node-limits job ok .1 in
+      each-enough j r (each _ (omega arith) (omega arith) (omega arith) (omega arith) (omega arith) (omega arith) (omega arith))
 
   listing-within : withinLimit 0 (listingSteps job) ≡ true
   unfolding withinLimit stepsFit

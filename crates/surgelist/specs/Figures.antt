@@ -31,7 +31,7 @@ job prints text = alike (listingOf job) text ≡ true
 
 pub record ListingFigures : Type 0 where
   -- a stop has its lines too: one section, 70 bytes
-  pub stopped-line : length (sectionLines 1 (ran record { done = 4; state = record { points = [] } } (stop parted 2))) ≡ 70
+  pub stopped-line : length (sectionLines 1 (ran record { done = 4; state = record { points = []; drives = [] } } (stop parted 2))) ≡ 70
   -- "Job Q ... one step", the four lines as document 01 prints them
   pub job-q : jobQ prints ascii "0 4024000000000000 4010000000000000 4024000000000000 4024000000000000\n"
       ++ (ascii "1 4024000000000000 4010000000000000 4024000000000000 4024000000000000\n"

@@ -21,16 +21,30 @@ fn run(
     flows: &mut [f64],
     highest: &mut [f64],
     lowest: &mut [f64],
+    speeds: &mut [f64],
+    inflows: &mut [f64],
     spare: &mut [f64],
 ) -> Answer
     requires { ⌜ (Accepted (now job)) × (steps ≡ listingSteps (now job)) ⌝ }
-    requires { ⌜ Long (lent heads flows highest lowest spare) ⌝ }
+    requires { ⌜ Long (lent heads flows highest lowest speeds inflows spare) ⌝ }
     ensures { λ r. ⌜ textOf (sections (jobOf (now (job .entry))))
-        (after heads flows highest lowest spare) (paperAnswer r)
+        (after heads flows highest lowest speeds inflows spare) (paperAnswer r)
         ≡ listingOf (now (job .entry)) ⌝ }
 {
-    surge::start(job, heads, flows, highest, lowest, spare);
-    surge::run_on(job, 0, steps as u64, heads, flows, highest, lowest, spare)
+    let count = steps as u64;
+    surge::start(job, heads, flows, highest, lowest, speeds, inflows, spare);
+    surge::run_on(
+        job,
+        0,
+        count,
+        heads,
+        flows,
+        highest,
+        lowest,
+        speeds,
+        inflows,
+        spare,
+    )
 }
 
 // Writes the listing of a job at the front of `out` and answers how many bytes it takes. The rows
@@ -41,17 +55,29 @@ pub fn write_listing_of(
     flows: &mut [f64],
     highest: &mut [f64],
     lowest: &mut [f64],
+    speeds: &mut [f64],
+    inflows: &mut [f64],
     spare: &mut [f64],
     out: &mut [u8],
 ) -> usize
-    requires { ⌜ (Long (lent heads flows highest lowest spare)) × (513 * 72 ≤ length (now out)) ⌝ }
+    requires { ⌜ (Long (lent heads flows highest lowest speeds inflows spare)) × (513 * 72 ≤ length (now out)) ⌝ }
     ensures { λ r. ⌜ AtFront (listingOf (now (job .entry))) (now (out .entry)) r (now (out .exit)) ⌝ }
 {
     let read = reader::read(job);
     match read {
         Read::Refused(q) => listing::write_listing(0, q, 0, 0, heads, flows, highest, lowest, out),
         Read::Accepted { sections, steps } => {
-            let answer = run(job, steps, heads, flows, highest, lowest, spare);
+            let answer = run(
+                job,
+                steps,
+                heads,
+                flows,
+                highest,
+                lowest,
+                speeds,
+                inflows,
+                spare,
+            );
             let end = surge::numbers_of(answer);
             let done = end.steps as usize;
             listing::write_listing(

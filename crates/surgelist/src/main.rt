@@ -11,6 +11,8 @@ fn print_listing(job: &[u8]) {
     let mut flows = [0.0f64; 512];
     let mut highest = [0.0f64; 512];
     let mut lowest = [0.0f64; 512];
+    let mut speeds = [0.0f64; 32];
+    let mut inflows = [0.0f64; 32];
     let mut spare = [0.0f64; 128];
     let mut text = [0u8; 36936];
     let n = listing_of::write_listing_of(
@@ -19,6 +21,8 @@ fn print_listing(job: &[u8]) {
         &mut flows,
         &mut highest,
         &mut lowest,
+        &mut speeds,
+        &mut inflows,
         &mut spare,
         &mut text,
     );

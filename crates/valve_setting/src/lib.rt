@@ -73,7 +73,7 @@ fn is_chain_with(job: &[u8], level: f64, q: f64) -> bool
     chain::is_chain(job) & fields::is_finite(level) & fields::is_finite(q)
 }
 
-// Sets the valve of a chain for the discharge q at the level `level`: questions 1 to 15 with 50, then 51, then 52.
+// Sets the valve of a chain for the discharge q at the level `level`: questions 1 to 15 with 50 and 53, then 51 and 52.
 pub fn set_valve(job: &[u8], level: f64, q: f64, heads: &mut [f64], flows: &mut [f64]) -> Setting
     ensures { λ r. ⌜ leaves heads flows r
         ≡ setValve (now (job .entry)) level q (now (heads .entry)) (now (flows .entry)) ⌝ }

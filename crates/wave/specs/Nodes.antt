@@ -86,3 +86,24 @@ nodeHead (Junction v) s = judged s ((s .b ⊟ v) ⊘ s .t)
 nodeHead (Reservoir v) s = judged s v
 nodeHead (Valve v a b) s = judged s (headLess (valveFlow v a b s) s)
 nodeHead (Pump v a b c) s = judged s (headMore (pumpFlow v a b c s) s)
+
+-- ---- document 02, 7/12: the pump inflow, and the speed after a power failure
+
+-- q of a pump. Where the root's argument is not finite there is none, and plus infinity stands for it, as for the head: the step stops there by either.
+unfoldable pub inflowOf : Discharge → Float
+inflowOf (Flow q) = q
+inflowOf NotFinite = infinity64
+
+-- of a node of another kind +0
+unfoldable pub nodeInflow : Node → Sums → Float
+nodeInflow (Junction v) s = zero64
+nodeInflow (Reservoir v) s = zero64
+nodeInflow (Valve v a b) s = zero64
+nodeInflow (Pump v a b c) s = inflowOf (pumpFlow v a b c s)
+
+-- "From the trip step on, speed is the old speed less G·((t0·α)·α + (t1·α)·q), or +0 where that is below zero", which neither -0 nor a NaN is. α and q are
+-- the old speed and the old inflow.
+unfoldable pub rundown : Float → Float → Float → Float → Float → Float
+rundown G t0 t1 α q =
+    let speed = α ⊟ G ⊠ ((t0 ⊠ α) ⊠ α ⊞ (t1 ⊠ α) ⊠ q) in
+    cond (lt speed zero64) zero64 speed

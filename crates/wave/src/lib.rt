@@ -18,7 +18,13 @@ pub struct HeadFlow {
     pub flow: f64,
 }
 
-// A node at a step, carrying its scheduled value first and then its own figures.
+// What a step works out for a node: its head, and what a pump lets in, which is +0 at other kinds.
+pub struct HeadInflow {
+    pub head: f64,
+    pub inflow: f64,
+}
+
+// A node at a step, carrying its value at the step first and then its own figures.
 pub enum Node {
     // draw-off
     Junction(f64),
@@ -188,7 +194,7 @@ fn pump_flow(roots: &[u16; 768], speed: f64, a: f64, b: f64, c: f64, sums: Sums)
 }
 
 // Plus infinity.
-fn infinity() -> f64
+pub fn infinity() -> f64
     ensures { λ r. ⌜ r ≡ infinity64 ⌝ }
 {
     f64::from_bits(0x7ff0_0000_0000_0000)
@@ -234,19 +240,50 @@ impl Sums {
     }
 }
 
-// H of a node, by its kind; judged for every kind.
-pub fn node_head(roots: &[u16; 768], n: Node, sums: Sums) -> f64
+// The inflow of a pump whose q this is: plus infinity where it has none, as its head is then.
+fn inflow_of(q: Discharge) -> f64
+    ensures { λ r. ⌜ r ≡ nodes.inflowOf q ⌝ }
+{
+    match q {
+        Discharge::Flow(q) => q,
+        Discharge::NotFinite => infinity(),
+    }
+}
+
+// The node solver: H of a node, by its kind, judged for every kind; and its inflow.
+pub fn solve_node(roots: &[u16; 768], n: Node, sums: Sums) -> HeadInflow
     requires { ⌜ IsTable (now roots) ⌝ }
-    ensures { λ r. ⌜ r ≡ nodes.nodeHead n sums ⌝ }
+    ensures { λ r. ⌜ (r .head ≡ nodes.nodeHead n sums) × (r .inflow ≡ nodes.nodeInflow n sums) ⌝ }
 {
     match n {
-        Node::Junction(draw) => sums.judged((sums.b - draw) / sums.t),
-        Node::Reservoir(level) => sums.judged(level),
+        Node::Junction(draw) => {
+            let head = sums.judged((sums.b - draw) / sums.t);
+            HeadInflow { head, inflow: 0.0 }
+        }
+        Node::Reservoir(level) => {
+            let head = sums.judged(level);
+            HeadInflow { head, inflow: 0.0 }
+        }
         Node::Valve(opening, a, b) => {
-            sums.judged(sums.head_less(valve_flow(roots, opening, a, b, sums)))
+            let q = valve_flow(roots, opening, a, b, sums);
+            let head = sums.judged(sums.head_less(q));
+            HeadInflow { head, inflow: 0.0 }
         }
         Node::Pump(speed, a, b, c) => {
-            sums.judged(sums.head_more(pump_flow(roots, speed, a, b, c, sums)))
+            let q = pump_flow(roots, speed, a, b, c, sums);
+            let head = sums.judged(sums.head_more(q));
+            HeadInflow {
+                head,
+                inflow: inflow_of(q),
+            }
         }
     }
+}
+
+// The speed of a pump that has lost its power, by the constants of its rundown, its old speed and its old inflow.
+pub fn rundown(g: f64, t0: f64, t1: f64, speed: f64, inflow: f64) -> f64
+    ensures { λ r. ⌜ r ≡ nodes.rundown g t0 t1 speed inflow ⌝ }
+{
+    let next = speed - g * ((t0 * speed) * speed + (t1 * speed) * inflow);
+    if next < 0.0 { 0.0 } else { next }
 }

@@ -29,6 +29,7 @@ static const char *const call_names[CALLS] = {"root", "set_valve", "run_on"};
 struct rows {
     uint64_t answer;
     double h[VINTUQAY_SECTIONS], q[VINTUQAY_SECTIONS], high[VINTUQAY_SECTIONS], low[VINTUQAY_SECTIONS];
+    double v[VINTUQAY_NODES], inflow[VINTUQAY_NODES];
     double spare[VINTUQAY_SPARE_PER_PIPE * VINTUQAY_PIPES], number;
 };
 static struct rows left[MODES][CALLS];
@@ -58,10 +59,11 @@ static void make_calls(struct rows *r) {
     r[SET_VALVE].answer |= set_valve(&r[SET_VALVE], vintuqay_double_of(UINT64_C(1) << 40)) << 16;
     r = &r[RUN_ON];
     vintuqay_start(job, used, r->h, VINTUQAY_SECTIONS, r->q, VINTUQAY_SECTIONS, r->high, VINTUQAY_SECTIONS, r->low,
-                   VINTUQAY_SECTIONS, r->spare, sizeof r->spare / sizeof r->spare[0]);
+                   VINTUQAY_SECTIONS, r->v, VINTUQAY_NODES, r->inflow, VINTUQAY_NODES, r->spare,
+                   sizeof r->spare / sizeof r->spare[0]);
     r->answer = vintuqay_run_on(job, used, 0, steps, r->h, VINTUQAY_SECTIONS, r->q, VINTUQAY_SECTIONS, r->high,
-                                VINTUQAY_SECTIONS, r->low, VINTUQAY_SECTIONS, r->spare,
-                                sizeof r->spare / sizeof r->spare[0]);
+                                VINTUQAY_SECTIONS, r->low, VINTUQAY_SECTIONS, r->v, VINTUQAY_NODES, r->inflow,
+                                VINTUQAY_NODES, r->spare, sizeof r->spare / sizeof r->spare[0]);
 }
 
 int main(int count, char **words) {

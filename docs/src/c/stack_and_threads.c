@@ -9,7 +9,7 @@
 #include <ucontext.h>
 #include <unistd.h>
 
-enum { SECTIONS = VINTUQAY_SECTIONS, SPARE = VINTUQAY_SPARE_PER_PIPE * VINTUQAY_PIPES };
+enum { SECTIONS = VINTUQAY_SECTIONS, NODES = VINTUQAY_NODES, SPARE = VINTUQAY_SPARE_PER_PIPE * VINTUQAY_PIPES };
 enum { JOBS = 64, ROUNDS = 200, MARK = 0xa5 };
 
 static uint8_t jobs[JOBS][VINTUQAY_JOB_BYTES];
@@ -18,7 +18,7 @@ static int job_count;
 
 /* What all calls on one job leave. */
 struct left {
-    double h[SECTIONS], q[SECTIONS], high[SECTIONS], low[SECTIONS], spare[SPARE];
+    double h[SECTIONS], q[SECTIONS], high[SECTIONS], low[SECTIONS], v[NODES], inflow[NODES], spare[SPARE];
     double set_h[SECTIONS], set_q[SECTIONS], coefficient, roots[SECTIONS];
     uint64_t read, started, ran, set;
     uint8_t text[SECTIONS][VINTUQAY_LINE_BYTES];
@@ -34,12 +34,12 @@ static void call_read(int j, struct left *l) { l->read = vintuqay_read(jobs[j], 
 
 static void call_start(int j, struct left *l) {
     l->started = vintuqay_start(jobs[j], lengths[j], l->h, SECTIONS, l->q, SECTIONS, l->high, SECTIONS, l->low,
-                                SECTIONS, l->spare, SPARE);
+                                SECTIONS, l->v, NODES, l->inflow, NODES, l->spare, SPARE);
 }
 
 static void call_run_on(int j, struct left *l) {
     l->ran = vintuqay_run_on(jobs[j], lengths[j], 0, vintuqay_steps(l->read), l->h, SECTIONS, l->q, SECTIONS, l->high,
-                             SECTIONS, l->low, SECTIONS, l->spare, SPARE);
+                             SECTIONS, l->low, SECTIONS, l->v, NODES, l->inflow, NODES, l->spare, SPARE);
 }
 
 static void call_set_valve(int j, struct left *l) {

@@ -14,7 +14,7 @@
  *   the thread that asks.
  * - Floating-point exceptions are not trapped. The calls raise their flags; a trap would end the program.
  * - The thread that calls has VINTUQAY_STACK_BYTES of stack left. No call takes other memory. Measured, in
- *   KB: vintuqay_run_on 3.6, vintuqay_set_valve 1.8, vintuqay_root 1.6, vintuqay_start 0.4, vintuqay_read
+ *   KB: vintuqay_run_on 3.9, vintuqay_set_valve 1.8, vintuqay_root 1.6, vintuqay_start 0.9, vintuqay_read
  *   0.3, vintuqay_line 0.1; some 3 more for the first of vintuqay_run_on and vintuqay_start where memcpy
  *   or memset is looked up late. The program surgelist takes 94.
  *
@@ -34,9 +34,12 @@
  * above zero; docs/MANUAL.md, 6). Since 1.2 the root is the double nearest the exact root; before, it
  * was cut down. Since 1.3 a job may have six pairs, table 6 with a 16-bit schedule count per node
  * (docs/MANUAL.md, 3); jobs of five pairs read as they did. Since 1.4 vintuqay_set_valve. Since 1.5
- * vintuqay_default_floats and VINTUQAY_STACK_BYTES. */
-#define VINTUQAY_VERSION_MAJOR 1
-#define VINTUQAY_VERSION_MINOR 5
+ * vintuqay_default_floats and VINTUQAY_STACK_BYTES. 2.0: vintuqay_start and vintuqay_run_on are lent a
+ * speed and an inflow per node as well, before the spare, and a job may have seven pairs, table 7 with the
+ * pumps whose power fails (docs/MANUAL.md, 3 and 6). A program written for 1.x lends two slices more and is
+ * otherwise as it was; it keeps the two between calls, as it keeps heads and flows. */
+#define VINTUQAY_VERSION_MAJOR 2
+#define VINTUQAY_VERSION_MINOR 0
 
 #ifdef __cplusplus
 extern "C" {
@@ -46,6 +49,7 @@ extern "C" {
 enum {
     VINTUQAY_JOB_BYTES = 32768,  /* the longest job */
     VINTUQAY_PIPES = 32,         /* the most pipes of a job */
+    VINTUQAY_NODES = 32,         /* the most nodes of a job */
     VINTUQAY_SECTIONS = 512,     /* the most sections of a job */
     VINTUQAY_STEPS = 1000000,    /* the most steps of a run */
     VINTUQAY_SPARE_PER_PIPE = 4, /* the values of the spare that a pipe takes */
@@ -60,7 +64,7 @@ enum vintuqay_answer {
 
     /* questions to every call that takes a job, in the order in which they are asked */
     VINTUQAY_JOB_LENGTH = 1,      /* has the job 46 to 32,768 bytes? */
-    VINTUQAY_PAIR_COUNT = 2,      /* are there five or six pairs, all inside the job? */
+    VINTUQAY_PAIR_COUNT = 2,      /* are there five to seven pairs, all inside the job? */
     VINTUQAY_TABLES = 3,          /* does each table follow the last, the first the pairs, and the last end the job? */
     VINTUQAY_LISTING_STEPS = 4,   /* are the steps for the listing at most 1,000,000? */
     VINTUQAY_PIPE_TABLE = 5,      /* is table 1 whole, 1 to 32 pipes? */
@@ -70,6 +74,7 @@ enum vintuqay_answer {
     VINTUQAY_PIPE_CONSTANT = 9,   /* is each S finite and above zero? */
     VINTUQAY_NODE_KIND = 10,      /* is each kind 0 to 3 and, with table 6 empty, each node's byte at least 1? */
     VINTUQAY_COUNT_TABLE = 50,    /* is table 6 empty, or two bytes per node, no count 0, each node's byte 0? */
+    VINTUQAY_TRIP_TABLE = 53,     /* is table 7 whole records, each of another pump, constants finite, none below 0? */
     VINTUQAY_NODE_FIGURES = 11,   /* are a, b, c finite and in range, zero bits where the kind names none? */
     VINTUQAY_NODE_END = 12,       /* has each node a pipe end? */
     VINTUQAY_FRICTION_TABLE = 13, /* has table 3 the right length, each R finite and not below zero? */
@@ -77,9 +82,9 @@ enum vintuqay_answer {
     VINTUQAY_SCHEDULE_TABLE = 15, /* has table 5 the right length, all finite and in its kind's range? */
 
     /* questions to the start and the run-on */
-    VINTUQAY_SLICE_LENGTH = 20, /* does each slice hold the section count, the spare four per pipe? */
+    VINTUQAY_SLICE_LENGTH = 20, /* is each slice as long as the start and the run-on say below? */
     VINTUQAY_STEP_LIMIT = 21,   /* is m at most 1,000,000 and N at most 1,000,000 - m? */
-    VINTUQAY_STATE = 22,        /* are heads, flows and envelopes finite, no head below its floor? */
+    VINTUQAY_STATE = 22,        /* are all slices but the spare finite, no head below its floor? */
 
     /* questions whose no vintuqay_root shows by a NaN, and vintuqay_line by 0 */
     VINTUQAY_ROOT_ARGUMENT = 23, /* is the argument finite and not below zero? */
@@ -90,7 +95,7 @@ enum vintuqay_answer {
     VINTUQAY_ROW_LENGTH = 52, /* do both rows hold the section count? */
 
     /* stops */
-    VINTUQAY_NOT_FINITE = 40, /* a head or flow is not finite */
+    VINTUQAY_NOT_FINITE = 40, /* a head, a flow, a speed or an inflow is not finite */
     VINTUQAY_PARTED = 41,     /* a head is below its floor */
 
     /* of vintuqay_set_valve: every question has a yes, and there is no coefficient */
@@ -154,15 +159,17 @@ static inline int vintuqay_default_floats(void) {
  */
 double vintuqay_root(double x);
 
-/* Puts questions 1 to 15 to a job, and 50 after 10; the first no decides. Where all have a yes, the
+/* Puts questions 1 to 15 to a job, and 50 and then 53 after 10; the first no decides. Where all have a yes, the
  * answer carries the section count and the steps for the listing.
  */
 uint64_t vintuqay_read(const uint8_t *job, size_t job_length);
 
-/* The start: questions 1 to 15 with 50, then 20 (do heads, flows, highest and lowest hold the section
- * count, and does spare hold four values per pipe?). Writes the initial heads and flows, and both envelopes as
- * the initial heads, up to the section count, and +0 in the first four values per pipe of spare.
- * Entries past these are untouched. What spare holds before a call has no effect.
+/* The start: questions 1 to 15 with 50 and 53, then 20 (do heads, flows, highest and lowest hold the section
+ * count, speeds and inflows the node count, and does spare hold four values per pipe?). Writes the initial
+ * heads and flows, and both envelopes as the initial heads, up to the section count; up to the node count
+ * the first scheduled speed of each pump with an inflow of +0, and +0 twice at other nodes; and +0 in the
+ * first four values per pipe of spare. Entries past these are untouched. What spare holds before a call has
+ * no effect. A caller that doesn't count the nodes lends VINTUQAY_NODES of each.
  */
 uint64_t vintuqay_start(
     const uint8_t *job, size_t job_length,
@@ -170,15 +177,21 @@ uint64_t vintuqay_start(
     double *flows, size_t flows_length,
     double *highest, size_t highest_length,
     double *lowest, size_t lowest_length,
+    double *speeds, size_t speeds_length,
+    double *inflows, size_t inflows_length,
     double *spare, size_t spare_length);
 
 /* The run-on: takes the number `done` of steps done (m) and a count (N), and does that many steps,
- * fewer only where one stops the run. Questions 1 to 15 with 50, then 20 as for the start, 21 (is m at
- * most 1,000,000 and N at most 1,000,000 - m?) and 22 (are heads, flows and envelopes finite up to the
- * section count, no head below its floor?). A stopped step changes no state or envelope. A finished
- * step raises the maximum where the head is greater and lowers the minimum where it is less. After an
- * unrefused call, one that stopped or had no steps to do included, the first four values per pipe of
- * spare are +0. Entries past these, and past the section count in the other slices, are untouched.
+ * fewer only where one stops the run. Questions 1 to 15 with 50 and 53, then 20 as for the start, 21 (is m
+ * at most 1,000,000 and N at most 1,000,000 - m?) and 22 (are heads, flows and envelopes finite up to the
+ * section count, no head below its floor, speeds and inflows finite up to the node count?). A stopped step
+ * changes no state or envelope, and no speed or inflow. A finished step raises the maximum where the head is
+ * greater and lowers the minimum where it is less, and writes each pump's speed and inflow of that step,
+ * +0 twice at other nodes. From a pump's trip step on its speed is worked out from what speeds and inflows
+ * hold (docs/MANUAL.md, 6); a speed or an inflow that is not finite stops as 40 at the node's lowest section.
+ * After an unrefused call, one that stopped or had no steps to do included, the first four values per pipe of
+ * spare are +0. Entries past these, past the node count in speeds and inflows, and past the section count in
+ * the other slices, are untouched.
  */
 uint64_t vintuqay_run_on(
     const uint8_t *job, size_t job_length, uint64_t done, uint64_t count,
@@ -186,11 +199,13 @@ uint64_t vintuqay_run_on(
     double *flows, size_t flows_length,
     double *highest, size_t highest_length,
     double *lowest, size_t lowest_length,
+    double *speeds, size_t speeds_length,
+    double *inflows, size_t inflows_length,
     double *spare, size_t spare_length);
 
 /* Sets the valve of a chain for a discharge: pipe i runs from node i to node i + 1, node 0 is a
  * reservoir, the last node a valve, and every other node a junction whose scheduled values are all
- * zero, of either sign. Questions 1 to 15 with 50, then 51, then 52. Takes the head `level` at section
+ * zero, of either sign. Questions 1 to 15 with 50 and 53, then 51, then 52. Takes the head `level` at section
  * 0, and from section to section along a reach H - ((R*Q)*|Q|)/S with Q = `discharge`; across a node
  * the head stays. The coefficient is Q / root(H - b), with the last head H and the valve's b.
  * The answer's number is

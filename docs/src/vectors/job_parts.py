@@ -1,4 +1,4 @@
-"""Jobs by their parts, for jobs.py and jobs_six_pairs.py. Nothing of the product is used."""
+"""Jobs by their parts, for jobs.py, jobs_six_pairs.py and jobs_seven_pairs.py. Nothing of the product is used."""
 import copy
 import math
 import struct
@@ -19,12 +19,13 @@ class Job:
         self.count = None  # the count of pairs, where it is not that of the tables
         self.table5 = None  # table 5, where it is not that of the schedules
         self.table6 = None  # table 6, where it has a pair
+        self.table7 = None  # table 7, where it has a pair; table 6 has one then too
         self.pipes, self.nodes, self.schedules = pipes, nodes, schedules
         reaches = sum(n for _, _, n, _ in pipes)
         self.sections = reaches + len(pipes)
         self.friction = [0.5] * reaches
         self.initial = [(10.0, 4.0, 0.0)] * self.sections
-        self.odd = [b""] * 6  # bytes at the end of a table that make no record
+        self.odd = [b""] * 7  # bytes at the end of a table that make no record
         self.pairs = None  # the pairs, where they are not those of the tables
         self.after = b""  # bytes after the last table
 
@@ -49,7 +50,11 @@ class Job:
             b"".join(f64(r) for r in self.friction),
             b"".join(f64(h) + f64(q) + f64(z) for h, q, z in self.initial),
             self.entries() if self.table5 is None else self.table5,
-        ] + ([] if self.table6 is None else [self.table6])
+        ]
+        if self.table6 is not None or self.table7 is not None:
+            bodies.append(self.table6 or b"")
+        if self.table7 is not None:
+            bodies.append(self.table7)
         return [body + odd for body, odd in zip(bodies, self.odd)]
 
     def laid(self):
@@ -74,6 +79,11 @@ def node(kind, a=0.0, b=0.0, c=0.0, count=None):
     return (kind, a, b, c, count)
 
 
+def trips(*records):
+    """Table 7, of records (node, trip step, G, t0, t1)."""
+    return b"".join(struct.pack("<HI", y, step) + f64(g) + f64(t0) + f64(t1) for y, step, g, t0, t1 in records)
+
+
 def chain(reaches, steps=1, entries=1):
     """A chain from a reservoir to a valve, with junctions between."""
     n = len(reaches)
@@ -96,3 +106,12 @@ KINDS = Job(
     [[10.0], [1.0, 0.5, 0.25], [1.0, 0.0], [-4.0]],
     7,
 )
+
+# two pumps that deliver to a reservoir; one trips at step 3, the other at step 2
+TRIP, OTHER = (1, 3, 0.5, 1.0, 2.0), (0, 2, 0.25, 0.0, 1.0)
+PUMPS = Job(
+    [(0, 2, 1, 1.0), (1, 2, 1, 2.0)],
+    [node(3, 10.0, 1.5, -3.0), node(3, 8.0, 1.0), node(1)],
+    [[1.0], [0.5], [10.0]],
+    5,
+).changed(table7=trips(TRIP, OTHER))

@@ -7,7 +7,8 @@ import math
 import struct
 
 SLIPS = [
-    "a seventh pair passed",
+    "an eighth pair passed",
+    "a seventh pair refused",
     "the pairs not asked to lie inside the file",
     "the first table at 46 in either form",
     "offset and length added in 32 bits",
@@ -29,6 +30,27 @@ SLIPS = [
     "the count of the first node carried past each",
     "a table 5 that ends early passed",
     "a table 5 that goes on passed",
+    "an empty table 6 refused in seven pairs",
+    "a table 7 that is not whole passed",
+    "an empty table 7 refused",
+    "records of 28 bytes",
+    "a node that is no pump passed",
+    "a node past the last passed",
+    "a node one byte wide",
+    "a node in two records passed",
+    "a node compared with that of the record before only",
+    "G not asked",
+    "t0 not asked",
+    "t1 not asked",
+    "a constant that is a NaN passed",
+    "an infinite constant passed",
+    "a constant below zero passed",
+    "-0 refused as a constant",
+    "53 stops at its first record",
+    "the last record not asked",
+    "53 before 50",
+    "53 after 11",
+    "53 after 12",
 ]
 
 
@@ -47,7 +69,8 @@ def pairs_of(job, count):
 def pairs_admitted(job, slip):
     count = u16(job, 0)
     inside = 6 + 8 * count <= len(job) or slip == "the pairs not asked to lie inside the file"
-    return count in (5, 6, 7 if slip == "a seventh pair passed" else 6) and inside
+    most = {"an eighth pair passed": 8, "a seventh pair refused": 6}.get(slip, 7)
+    return 5 <= count <= most and inside
 
 
 def tables_adjoin(job, slip):
@@ -100,6 +123,49 @@ def kinds_admitted(nodes, table, six, slip):
     return all(record[0] <= 3 and (record[1] >= 1 or not byte) for record in nodes)
 
 
+def constant_admitted(x, slip):
+    if math.isnan(x):
+        return slip == "a constant that is a NaN passed"
+    if math.isinf(x) and x > 0:
+        return slip == "an infinite constant passed"
+    if x < 0:
+        return slip == "a constant below zero passed"
+    return slip != "-0 refused as a constant" or math.copysign(1.0, x) > 0
+
+
+def trip_admitted(nodes, records, i, slip):
+    """Question 53 of record i, which names a node among those before it."""
+    y, _, *constants = records[i]
+    if slip == "a node one byte wide":
+        y %= 256
+    if y >= len(nodes):
+        return slip == "a node past the last passed"
+    before = [record[0] for record in records[:i]]
+    if slip == "a node compared with that of the record before only":
+        before = before[-1:]
+    asked = [x for name, x in zip(("G", "t0", "t1"), constants) if slip != name + " not asked"]
+    return ((nodes[y][0] == 3 or slip == "a node that is no pump passed")
+            and (y not in before or slip == "a node in two records passed")
+            and all(constant_admitted(x, slip) for x in asked))
+
+
+def trips_admitted(nodes, table, slip):
+    """Question 53."""
+    width = 28 if slip == "records of 28 bytes" else 30
+    if not table and slip == "an empty table 7 refused":
+        return False
+    if len(table) % width and slip != "a table 7 that is not whole passed":
+        return False
+    starts = range(0, len(table) // width * width, width)
+    records = [struct.unpack_from("<HIddd", table + bytes(2), at) for at in starts]
+    asked = range(len(records))
+    if slip == "53 stops at its first record":
+        asked = asked[:1]
+    if slip == "the last record not asked":
+        asked = asked[:-1]
+    return all(trip_admitted(nodes, records, i, slip) for i in asked)
+
+
 def counts_in_force(nodes, table, slip):
     if not table or slip == "the byte read though table 6 stands":
         return [record[1] for record in nodes]
@@ -127,15 +193,26 @@ def entries_admitted(nodes, counts, entries, slip):
     return True
 
 
-def node_questions(nodes, table, six, slip):
-    order = {"50 before 10": (50, 10, 11), "50 after 11": (10, 11, 50)}.get(slip, (10, 50, 11))
+def node_questions(nodes, tables, pipes, slip):
+    order = {
+        "50 before 10": (50, 10, 53, 11, 12),
+        "50 after 11": (10, 53, 11, 50, 12),
+        "53 before 50": (10, 53, 50, 11, 12),
+        "53 after 11": (10, 50, 11, 53, 12),
+        "53 after 12": (10, 50, 11, 12, 53),
+    }.get(slip, (10, 50, 53, 11, 12))
     for number in order:
         if number == 10:
-            yield 10, kinds_admitted(nodes, table, six, slip)
+            yield 10, kinds_admitted(nodes, tables[5], len(tables) > 7, slip)
         elif number == 50:
-            yield 50, counts_admitted(nodes, table, slip)
-        else:
+            needed = slip == "an empty table 6 refused in seven pairs" and len(tables) == 9
+            yield 50, counts_admitted(nodes, tables[5], slip) and not (needed and not tables[5])
+        elif number == 53:
+            yield 53, trips_admitted(nodes, tables[6], slip)
+        elif number == 11:
             yield 11, all(map(figures_admitted, nodes))
+        else:
+            yield 12, set(range(len(nodes))) == {end for a, b, _, _ in pipes for end in (a, b)}
 
 
 def questions(job, slip):
@@ -145,7 +222,7 @@ def questions(job, slip):
     yield 3, tables_adjoin(job, slip)
     count, steps = struct.unpack_from("<HI", job)
     yield 4, steps <= 1000000
-    tables = [job[o:o + n] for o, n in pairs_of(job, count)] + [b""]
+    tables = [job[o:o + n] for o, n in pairs_of(job, count)] + [b""] * 2
     yield 5, len(tables[0]) % 12 == 0 and 1 <= len(tables[0]) // 12 <= 32
     yield 6, len(tables[1]) % 26 == 0 and 2 <= len(tables[1]) // 26 <= 32
     pipes = [struct.unpack_from("<BBHd", tables[0], at) for at in range(0, len(tables[0]), 12)]
@@ -155,8 +232,7 @@ def questions(job, slip):
     sections = reaches + len(pipes)
     yield 8, sections <= 512
     yield 9, all(math.isfinite(s) and s > 0 for *_, s in pipes)
-    yield from node_questions(nodes, tables[5], count > 5, slip)
-    yield 12, set(range(len(nodes))) == {end for a, b, _, _ in pipes for end in (a, b)}
+    yield from node_questions(nodes, tables, pipes, slip)
     yield 13, len(tables[2]) == 8 * reaches and all(math.isfinite(r) and r >= 0 for r in all_f64(tables[2]))
     yield 14, len(tables[3]) == 24 * sections
     rows = [struct.unpack_from("<ddd", tables[3], at) for at in range(0, len(tables[3]), 24)]

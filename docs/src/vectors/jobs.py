@@ -10,6 +10,7 @@ import pathlib
 import struct
 
 import job_reader
+import jobs_seven_pairs
 import jobs_six_pairs
 from job_parts import INF, JOB_Q, KINDS, NAN, TINY, Job, chain, node, put
 
@@ -36,7 +37,7 @@ def pairs():
     q = JOB_Q
     laid = q.laid()
     end = laid[4][0] + laid[4][1]
-    for n in (0, 1, 2, 3, 4, 7, 8, 256 * 5, 256 * 6, 65535):
+    for n in (0, 1, 2, 3, 4, 8, 9, 256 * 5, 256 * 6, 256 * 7, 65535):
         yield "%d pairs" % n, q.changed(count=n).bytes(), "refused 2"
     yield "four pairs and too many steps", q.changed(count=4, steps=2000000).bytes(), "refused 2"
     for what, i, pair in [
@@ -235,7 +236,7 @@ def main():
     here = pathlib.Path(__file__).resolve()
     crate = here.parents[3] / "crates" / "job_vectors"
     rows = [("job Q", JOB_Q.bytes(), "accepted 3 1"), ("all four kinds", KINDS.bytes(), "accepted 6 7")]
-    for part in (size, pairs, pipes, nodes, values, *jobs_six_pairs.PARTS):
+    for part in (size, pairs, pipes, nodes, values, *jobs_six_pairs.PARTS, *jobs_seven_pairs.PARTS):
         rows += list(part())
     check(rows)
     assert len(JOB_Q.bytes()) == 214

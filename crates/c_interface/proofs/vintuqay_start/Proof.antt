@@ -6,8 +6,8 @@ use Rattle.c_interface.proofs.vintuqay_start.Tie as tie
 
 returns : tie.Need-returns
 returns c =
-    let known : tie.After-slice-known8 = c .before .before .before .before .before in
-    let called : tie.After-start = known .before .before .before .before .before .before in
+    let known : tie.After-slice-known12 = c .before .before .before .before .before in
+    let called : tie.After-start = known .before .before .before .before .before .before .before .before .before .before in
     packed-call (c .pack-answer .ensures) (called .start .ensures)
 
 pub vintuqay-start-spec : {M : Type 1} → statement M
@@ -16,6 +16,8 @@ vintuqay-start-spec =
     (tie.spec
     (λ c κs. search needs)
     (λ c κs. search needs)
+    (λ c. search needs)
+    (λ c. search needs)
     (λ c. search needs)
     (λ c. search needs)
     (λ c. search needs)

@@ -6,14 +6,16 @@ use Rattle.call_questions.proofs.enough.Tie as tie
 
 returns : tie.Need-returns
 returns c =
-    let s = c .before .before in
-    let a = s .args in
-    enough-asked (a .job .now) (s .pre .0) (s .pre .1) (c .pipe-count .ensures .0) (a .a) (a .b) (a .c) (a .d) (a .e)
+    let pipes : tie.After-pipe-count = c .before .before .before .before .before .before .before in
+    let nodes : tie.After-node-count = pipes .before in
+    let s : tie.Start = nodes .before .before in
+    enough-asked (s .args .job .now) (s .pre .0) (s .pre .1) (nodes .node-count .ensures) (pipes .pipe-count .ensures .0) (s .args .l)
 
 pub enough-spec : {M : Type 1} → statement M
 enough-spec =
     tie.close
     (tie.spec
+    (λ c κs. search needs)
     (λ c κs. search needs)
     (λ c. search needs)
     returns)

@@ -26,7 +26,7 @@ loop-holds c = rw (c .begun .ensures) (search needs, walk-none, refl, ends-none 
 
 -- the function's entry
 abbrev start : tie.At-loop Inv-loop μ-loop → tie.Start Inv-loop μ-loop
-start c = c .before .before .before .before .before
+start c = c .before .before .before .before .before .before
 
 -- the walk has not passed the last pipe
 here : (c : tie.Then1 Inv-loop μ-loop) → c .before .before .loop .at .pipe < pipeCount (pipeTable (start (c .before .before) .args .job .now))
@@ -34,7 +34,7 @@ here c = omega (arith, c .before .before .before .before .pipe-count .ensures .0
 
 -- there is room for the ends of one pipe more
 room : (c : tie.Then1 Inv-loop μ-loop) → c .before .before .loop .at .pipe * 4 + 4 ≤ length (c .before .before .loop .spare)
-room c = omega (arith, here c, c .before .before .loop .inv .2, start (c .before .before) .pre .1)
+room c = omega (arith, here c, c .before .before .loop .inv .2, start (c .before .before) .pre .2)
 
 pipe-at-requires : tie.Need-pipe-at-requires Inv-loop μ-loop
 pipe-at-requires c κs = (start (c .before .before) .pre .0, here c, c .before .before .loop .inv .1)
@@ -49,7 +49,8 @@ next c =
 pipe-ends-requires : tie.Need-pipe-ends-requires Inv-loop μ-loop
 pipe-ends-requires c κs =
     let read : tie.After-pipe-at Inv-loop μ-loop = c .before in
-    (next read .here .start-low, next read .here .finish-low, room (read .before))
+    let rows = start (read .before .before .before) .pre .1 in
+    (omega (arith, next read .here .start-low, rows), omega (arith, next read .here .finish-low, rows), room (read .before))
 
 past-requires : tie.Need-past-requires Inv-loop μ-loop
 past-requires c κs = omega (arith, next (c .before .before .before .before) .low)

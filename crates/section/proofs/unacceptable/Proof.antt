@@ -4,7 +4,7 @@ use mathlib.Core.Bool.{Bool, not, _&&_, and-assoc}
 use borrow.Author.Needs.{needs}
 use lib.Ieee.{lt}
 use lib.Ieee.Scale.{finite}
-use Rattle.recurrence.specs.Scan.{acceptableAt}
+use Rattle.recurrence.specs.Scan.{finitePoint, acceptableAt}
 use Rattle.section.proofs.unacceptable.Statement.{statement}
 use Rattle.section.proofs.unacceptable.Tie as tie
 
@@ -13,7 +13,7 @@ asked :
     → let a = c .before .before .args in
     acceptableAt (a .floor) record { head = a .head; flow = a .flow; highest = a .highest; lowest = a .lowest }
     ≡ (c .before .both-finite .result && c .both-finite2 .result) && not (lt (a .head) (a .floor))
-unfolding acceptableAt
+unfolding acceptableAt finitePoint
 asked c =
     let a = c .before .before .args in
     let kept = not (lt (a .head) (a .floor)) in

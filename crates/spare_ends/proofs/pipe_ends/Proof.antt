@@ -10,7 +10,7 @@ use Rattle.spare_ends.proofs.pipe_ends.Tie as tie
 returns : tie.Need-returns
 returns c =
     let started : tie.After-start-end = c .before .before .before in
-    let args = started .before .before .before .before .args in
+    let args = started .before .before .before .before .before .args in
     let start = started .start-end .ensures in
     let finish = c .finish-end .ensures in
     λ i. withEnds (args .spare .now) (args .p * 4) (start i) (finish i)

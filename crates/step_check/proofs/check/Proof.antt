@@ -9,7 +9,7 @@ use Rattle.step_check.proofs.check.Tie as tie
 
 returns : tie.Need-returns
 unfolding foundFault firstFault
-returns c = λ v e. sym (none-of-sound _ _ (sym (c .before .faults .ensures v e) ∙ eq-eqb (c .before .faults .result) 0 (c .if1 .taken)))
+returns c = λ nodes e. sym (none-of-sound _ _ (sym (c .before .faults .ensures nodes e) ∙ eq-eqb (c .before .faults .result) 0 (c .if1 .taken)))
 
 pub check-spec : {M : Type 1} → statement M
 check-spec = tie.close (tie.spec (λ c κs. search needs) returns (λ c κs. search needs) (λ c. search needs))

@@ -4,9 +4,9 @@ use Prim.Native.Nat.{ℕ, _+_, _-_, _*_, _<_, _≤_}
 use native.Mathlib.Omega.{arith}
 use lib.Dec.{eqb}
 use lib.ListN.{length}
-use lib.Ieee.{Float}
 use denote.Ref.{now}
 use borrow.Author.Needs.{needs}
+use Rattle.wave.specs.declared.Node.{Node}
 use Rattle.loops.specs.Loops.{allBelow}
 use Rattle.job.specs.Format.{pipeTable, initialTable, pipeCount}
 use Rattle.job.proofs.WalkLaws.{walk-none}
@@ -22,8 +22,8 @@ use Rattle.step_check.proofs.faults.Tie as tie
 abbrev Inv-loop : tie.InvT-loop
 Inv-loop job heads flows spare count bad₀ at₀ bad at =
     (at .pipe ≤ count) × (Walked job at) × (bad ≤ at .section * 3)
-    × ((v : ℕ → Float) → EndsIn job v heads flows spare
-    → eqb bad 0 ≡ allBelow (λ s. isSound (faultAt (initialTable job) (newSection job v heads flows) s)) (at .section))
+    × ((nodes : ℕ → Node) → EndsIn job nodes heads flows spare
+    → eqb bad 0 ≡ allBelow (λ s. isSound (faultAt (initialTable job) (newSection job nodes heads flows) s)) (at .section))
 
 abbrev μ-loop : tie.MeasureT-loop
 μ-loop job heads flows spare count bad₀ at₀ bad at = count - at .pipe
@@ -37,7 +37,7 @@ entry c = start (c .before .before)
 
 loop-holds : tie.Need-loop-holds Inv-loop μ-loop
 unfolding allBelow
-loop-holds c = rw (c .begun .ensures) (search needs, walk-none, omega arith, λ v e. refl)
+loop-holds c = rw (c .begun .ensures) (search needs, walk-none, omega arith, λ nodes e. refl)
 
 -- the walk has not passed the last pipe
 here : (c : tie.Then1 Inv-loop μ-loop) → c .before .before .loop .at .pipe < pipeCount (pipeTable (now (entry (c .before .before) .args .job)))
@@ -96,9 +96,9 @@ loop-again c =
       search needs,
       next read .walked,
       omega (arith, few counted, inv .2, some),
-      λ v e.
-          judged-more (λ s. isSound (faultAt (initialTable job) (newSection job v heads flows) s)) (loop .loop .at .section) (l .pipe .reaches) (loop .loop .bad) _ (inv .3 v e)
-          (pipe-sound job v heads flows (now (args .spare)) e _ l (read .pipe-at .ensures) some (next read .first-is) _ _ (counted .before .before .inner-faults .ensures .1)
+      λ nodes e.
+          judged-more (λ s. isSound (faultAt (initialTable job) (newSection job nodes heads flows) s)) (loop .loop .at .section) (l .pipe .reaches) (loop .loop .bad) _ (inv .3 nodes e)
+          (pipe-sound job nodes heads flows (now (args .spare)) e _ l (read .pipe-at .ensures) some (next read .first-is) _ _ (counted .before .before .inner-faults .ensures .1)
           (counted .end-faults .ensures .1)),
     )
 
@@ -107,7 +107,7 @@ returns c =
     let loop : tie.At-loop Inv-loop μ-loop = c .before .before in
     let inv = loop .loop .inv in
     let all = all-passed _ (entry loop .pre .0 .accepted) _ (inv .1) (omega (arith, loop .before .before .pipe-count .ensures .0)) in
-    λ v e. rw all (inv .3 v e)
+    λ nodes e. rw all (inv .3 nodes e)
 
 pub faults-spec : {M : Type 1} → statement M
 faults-spec =

@@ -2,9 +2,9 @@
 use mathlib.Core.Path.{_≡_, sym, ap, _∙_}
 use Prim.Native.Nat.{ℕ, _+_, _-_, _<_, _≤_}
 use native.Mathlib.Omega.{arith}
-use lib.Ieee.{Float}
 use denote.Ref.{now}
 use borrow.Author.Needs.{needs}
+use Rattle.wave.specs.declared.Node.{Node}
 use Rattle.loops.specs.Loops.{firstBelow}
 use Rattle.loops.proofs.First.{first-none}
 use Rattle.job.specs.Job.{sections}
@@ -23,7 +23,7 @@ use Rattle.step_check.proofs.first_fault.Tie as tie
 abbrev Inv-loop : tie.InvT-loop
 Inv-loop job heads flows spare count at₀ at =
     (at .pipe ≤ count) × (Walked job at)
-    × ((v : ℕ → Float) → EndsIn job v heads flows spare → firstBelow earlier none (faultAt (initialTable job) (newSection job v heads flows)) (at .section) ≡ none)
+    × ((nodes : ℕ → Node) → EndsIn job nodes heads flows spare → firstBelow earlier none (faultAt (initialTable job) (newSection job nodes heads flows)) (at .section) ≡ none)
 
 abbrev μ-loop : tie.MeasureT-loop
 μ-loop job heads flows spare count at₀ at = count - at .pipe
@@ -36,7 +36,7 @@ abbrev entry : tie.At-loop Inv-loop μ-loop → tie.Start Inv-loop μ-loop
 entry c = start (c .before .before)
 
 loop-holds : tie.Need-loop-holds Inv-loop μ-loop
-loop-holds c = rw (c .begun .ensures) (search needs, walk-none, λ v e. first-none earlier none _)
+loop-holds c = rw (c .begun .ensures) (search needs, walk-none, λ nodes e. first-none earlier none _)
 
 -- the walk has not passed the last pipe
 here : (c : tie.Then1 Inv-loop μ-loop) → c .before .before .loop .at .pipe < pipeCount (pipeTable (now (entry (c .before .before) .args .job)))
@@ -62,41 +62,41 @@ first-in-pipe-requires c κs =
 abbrev loop-of : tie.After-first-in-pipe Inv-loop μ-loop → tie.At-loop Inv-loop μ-loop
 loop-of c = c .before .before .before .before
 
--- the faults of all sections, where v has the value of each node
-abbrev faultsOf : tie.Start Inv-loop μ-loop → (ℕ → Float) → ℕ → Fault
-faultsOf s v = faultAt (initialTable (now (s .args .job))) (newSection (now (s .args .job)) v (now (s .args .heads)) (now (s .args .flows)))
+-- the faults of all sections, by the nodes
+abbrev faultsOf : tie.Start Inv-loop μ-loop → (ℕ → Node) → ℕ → Fault
+faultsOf s nodes = faultAt (initialTable (now (s .args .job))) (newSection (now (s .args .job)) nodes (now (s .args .heads)) (now (s .args .flows)))
 
-abbrev Ends : tie.Start Inv-loop μ-loop → (ℕ → Float) → Type 0
-Ends s v = EndsIn (now (s .args .job)) v (now (s .args .heads)) (now (s .args .flows)) (now (s .args .spare))
+abbrev Ends : tie.Start Inv-loop μ-loop → (ℕ → Node) → Type 0
+Ends s nodes = EndsIn (now (s .args .job)) nodes (now (s .args .heads)) (now (s .args .flows)) (now (s .args .spare))
 
 -- what is found in this pipe is its first fault
 found :
-    (c : tie.After-first-in-pipe Inv-loop μ-loop) (v : ℕ → Float) → Ends (entry (loop-of c)) v
+    (c : tie.After-first-in-pipe Inv-loop μ-loop) (nodes : ℕ → Node) → Ends (entry (loop-of c)) nodes
     → foundFault (c .first-in-pipe .result)
-    ≡ firstBelow earlier none (λ i. faultsOf (entry (loop-of c)) v (loop-of c .loop .at .section + i)) (c .before .pipe-at .result .reaches + 1)
-found c v e =
+    ≡ firstBelow earlier none (λ i. faultsOf (entry (loop-of c)) nodes (loop-of c .loop .at .section + i)) (c .before .pipe-at .result .reaches + 1)
+found c nodes e =
     let read : tie.After-pipe-at Inv-loop μ-loop = c .before in
     let args = entry (loop-of c) .args in
-    pipe-searched (now (args .job)) v (now (args .heads)) (now (args .flows)) (now (args .spare)) e _ (laidOf (read .pipe-at .result)) (read .pipe-at .ensures)
+    pipe-searched (now (args .job)) nodes (now (args .heads)) (now (args .flows)) (now (args .spare)) e _ (laidOf (read .pipe-at .result)) (read .pipe-at .ensures)
     (next read .first-is) (c .first-in-pipe .ensures)
 
 -- a fault that is found is the first of all sections
 stop :
-    (c : tie.After-first-in-pipe Inv-loop μ-loop) (v : ℕ → Float) → Ends (entry (loop-of c)) v
+    (c : tie.After-first-in-pipe Inv-loop μ-loop) (nodes : ℕ → Node) → Ends (entry (loop-of c)) nodes
     → ((b : Fault) → earlier (foundFault (c .first-in-pipe .result)) b ≡ foundFault (c .first-in-pipe .result))
-    → foundFault (c .first-in-pipe .result) ≡ firstBelow earlier none (faultsOf (entry (loop-of c)) v) (sections (jobOf (now (entry (loop-of c) .args .job))))
-stop c v e stays =
+    → foundFault (c .first-in-pipe .result) ≡ firstBelow earlier none (faultsOf (entry (loop-of c)) nodes) (sections (jobOf (now (entry (loop-of c) .args .job))))
+stop c nodes e stays =
     let loop = loop-of c .loop in
     let ahead = next (c .before) in
-    first-found _ (loop .at .section) (c .before .pipe-at .result .reaches + 1) (loop .inv .2 v e) (found c v e) _ (omega (arith, ahead .here .sections-in, ahead .first-is)) stays
+    first-found _ (loop .at .section) (c .before .pipe-at .result .reaches + 1) (loop .inv .2 nodes e) (found c nodes e) _ (omega (arith, ahead .here .sections-in, ahead .first-is)) stays
 
 returns : tie.Need-returns Inv-loop μ-loop
 unfolding foundFault earlier firstFault
-returns c = λ v e. stop (c .before .before) v e (λ b. rw (c .enum-told2 .given .1))
+returns c = λ nodes e. stop (c .before .before) nodes e (λ b. rw (c .enum-told2 .given .1))
 
 returns-2 : tie.Need-returns-2 Inv-loop μ-loop
 unfolding foundFault earlier firstFault
-returns-2 c = λ v e. stop (c .before .before) v e (λ b. rw (c .enum-told3 .given .1))
+returns-2 c = λ nodes e. stop (c .before .before) nodes e (λ b. rw (c .enum-told3 .given .1))
 
 loop-again : tie.Need-loop-again Inv-loop μ-loop
 unfolding foundFault
@@ -109,7 +109,7 @@ loop-again c =
     rw (c .past .ensures) (
       search needs,
       next (searched .before) .walked,
-      λ v e. ap (firstBelow earlier none _) more ∙ first-after _ (loop .at .section) (n + 1) (loop .inv .2 v e) (found searched v e) ∙ ap foundFault (told .enum-told .given .1),
+      λ nodes e. ap (firstBelow earlier none _) more ∙ first-after _ (loop .at .section) (n + 1) (loop .inv .2 nodes e) (found searched nodes e) ∙ ap foundFault (told .enum-told .given .1),
     )
 
 returns-3 : tie.Need-returns-3 Inv-loop μ-loop
@@ -118,7 +118,7 @@ returns-3 c =
     let loop : tie.At-loop Inv-loop μ-loop = c .before .before in
     let inv = loop .loop .inv in
     let all = all-passed _ (entry loop .pre .0 .accepted) _ (inv .1) (omega (arith, loop .before .before .pipe-count .ensures .0)) in
-    λ v e. sym (ap (firstBelow earlier none _) all ∙ inv .2 v e)
+    λ nodes e. sym (ap (firstBelow earlier none _) all ∙ inv .2 nodes e)
 
 pub first-fault-spec : {M : Type 1} → statement M
 first-fault-spec =

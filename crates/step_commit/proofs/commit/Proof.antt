@@ -4,9 +4,9 @@ use mathlib.Core.Path.{_≡_, refl, _∙_}
 use Prim.Native.Nat.{ℕ, _-_, _<_, _≤_}
 use native.Mathlib.Omega.{arith}
 use lib.ListN.{length}
-use lib.Ieee.{Float}
 use denote.Ref.{now}
 use borrow.Author.Needs.{needs}
+use Rattle.wave.specs.declared.Node.{Node}
 use Rattle.job.specs.Format.{pipeTable, pipeCount}
 use Rattle.job.proofs.WalkLaws.{walk-none}
 use Rattle.section.proofs.RowLaws.{SteppedTo, stepped-none, stepped-done}
@@ -22,8 +22,8 @@ abbrev Inv-loop : tie.InvT-loop
 Inv-loop job spare heads₀ flows₀ highest₀ lowest₀ count at₀ heads flows highest lowest at =
     (at .pipe ≤ count) × (Walked job at)
     × ((length heads ≡ length heads₀) × (length flows ≡ length flows₀) × (length highest ≡ length highest₀) × (length lowest ≡ length lowest₀))
-    × ((v : ℕ → Float) → EndsIn job v heads₀ flows₀ spare
-    → SteppedTo (newSection job v heads₀ flows₀) 0 (at .section) heads₀ flows₀ highest₀ lowest₀ heads flows highest lowest)
+    × ((nodes : ℕ → Node) → EndsIn job nodes heads₀ flows₀ spare
+    → SteppedTo (newSection job nodes heads₀ flows₀) 0 (at .section) heads₀ flows₀ highest₀ lowest₀ heads flows highest lowest)
 
 abbrev μ-loop : tie.MeasureT-loop
 μ-loop job spare heads₀ flows₀ highest₀ lowest₀ count at₀ heads flows highest lowest at = count - at .pipe
@@ -36,7 +36,7 @@ abbrev entry : tie.At-loop Inv-loop μ-loop → tie.Start Inv-loop μ-loop
 entry c = start (c .before .before .before)
 
 loop-holds : tie.Need-loop-holds Inv-loop μ-loop
-loop-holds c = rw (c .begun .ensures) (search needs, walk-none, (refl, refl, refl, refl), λ v e. stepped-none)
+loop-holds c = rw (c .begun .ensures) (search needs, walk-none, (refl, refl, refl, refl), λ nodes e. stepped-none)
 
 -- the walk has not passed the last pipe
 here : (c : tie.Then1 Inv-loop μ-loop) → c .before .before .loop .at .pipe < pipeCount (pipeTable (now (entry (c .before .before) .args .job)))
@@ -87,9 +87,9 @@ loop-again c =
       search needs,
       next read .walked,
       (kept .0 ∙ inv .2 .0, kept .1 .0 ∙ inv .2 .1, kept .1 .1 .0 ∙ inv .2 .2, kept .1 .1 .1 .0 ∙ inv .2 .3),
-      λ v e.
-          pipe-more (now (args .job)) v (now (args .heads)) (now (args .flows)) (now (args .spare)) e _ (laidOf (read .pipe-at .result)) (read .pipe-at .ensures)
-          (next read .first-is) (inv .3 v e) (done .commit-pipe .ensures) refl,
+      λ nodes e.
+          pipe-more (now (args .job)) nodes (now (args .heads)) (now (args .flows)) (now (args .spare)) e _ (laidOf (read .pipe-at .result)) (read .pipe-at .ensures)
+          (next read .first-is) (inv .3 nodes e) (done .commit-pipe .ensures) refl,
     )
 
 returns : tie.Need-returns Inv-loop μ-loop
@@ -97,7 +97,7 @@ returns c =
     let loop : tie.At-loop Inv-loop μ-loop = c .before .before in
     let inv = loop .loop .inv in
     let all = all-passed _ (entry loop .pre .0 .0 .accepted) _ (inv .1) (omega (arith, loop .before .before .pipe-count .ensures .0)) in
-    λ v e. stepped-done (inv .3 v e) _ all
+    λ nodes e. stepped-done (inv .3 nodes e) _ all
 
 pub commit-spec : {M : Type 1} → statement M
 commit-spec =

@@ -10,25 +10,26 @@ use Rattle.recurrence.specs.Run.{withinLimit}
 use Rattle.recurrence.specs.Calls.{heads, flows, highest, lowest, Rows, stateIn}
 use Rattle.recurrence.specs.Slices.{lent}
 use Rattle.recurrence.proofs.RowLaws.{enough-each}
+use Rattle.time_step.proofs.StepInRows.{pairs-long}
 use Rattle.surge.proofs.CallLaws.{Opened, opened, run-refused, run-beyond, run-unacceptable, run-ran, limit-kept}
 use Rattle.surge.proofs.run_on.Statement.{statement}
 use Rattle.surge.proofs.run_on.Tie as tie
 
 -- the function's entry, and the rows as they are lent
-abbrev entry : tie.After-slice-known5 → tie.Start
-entry c = c .before .before .before .before .before .before
+abbrev entry : tie.After-slice-known7 → tie.Start
+entry c = c .before .before .before .before .before .before .before .before
 
-abbrev rows : tie.After-slice-known5 → Rows
-rows c = let a = entry c .args in lent (a .heads) (a .flows) (a .highest) (a .lowest) (a .spare)
+abbrev rows : tie.After-slice-known7 → Rows
+rows c = let a = entry c .args in lent (a .heads) (a .flows) (a .highest) (a .lowest) (a .speeds) (a .inflows) (a .spare)
 
 -- where the questions to a job and 20 are asked, and where 21 and 22 are
-abbrev asked : tie.After-within-limit → tie.After-slice-known5
+abbrev asked : tie.After-within-limit → tie.After-slice-known7
 asked c = c .before .before .before .before .before
 
 abbrev asked-21 : tie.After-acceptable → tie.After-within-limit
-asked-21 c = c .before .before .before .before .before
+asked-21 c = c .before .before .before .before .before .before .before
 
-abbrev asked-20 : tie.After-acceptable → tie.After-slice-known5
+abbrev asked-20 : tie.After-acceptable → tie.After-slice-known7
 asked-20 c = asked (asked-21 c)
 
 -- the questions to a job and 20 have a yes
@@ -50,10 +51,10 @@ acceptable-is c = c .acceptable .ensures _
 
 acceptable-requires : tie.Need-acceptable-requires
 acceptable-requires c κs =
-    let limit : tie.After-within-limit = c .before .before .before .before in
+    let limit : tie.After-within-limit = c .before .before .before .before .before .before in
     let o = first-yes (yes-20 limit) in
     let long = enough-each _ _ (o .enough) in
-    ((o .accepted, o .count), rw (o .count) (long heads, long flows, long highest, long lowest))
+    ((o .accepted, o .count), (rw (o .count) (long heads, long flows, long highest, long lowest), pairs-long record { accepted = o .accepted; enough = o .enough }))
 
 -- the branch is searched for among the places before the return: where the call has written by then, the row that differs is the error
 returns : tie.Need-returns
@@ -69,7 +70,7 @@ returns-2 c =
 
 carry-on-requires : tie.Need-carry-on-requires
 carry-on-requires c κs =
-    let sound : tie.Else2 = c .before .before .before .before .before in
+    let sound : tie.Else2 = c .before .before .before .before .before .before .before in
     let o = first-yes (yes-20 (asked-21 (sound .before .before))) in
     (record { accepted = o .accepted; enough = o .enough }, limit-kept _ _ (within (sound .before)))
 
@@ -78,9 +79,10 @@ returns-3 c = run-refused _ _ _ _ _ (ap paperRead (sym (c .before .read .given .
 
 returns-4 : tie.Need-returns-4
 returns-4 c =
-    let highest : tie.After-highest = c .before .before .before .before .before in
+    let speeds : tie.After-speeds = c .before .before .before .before .before in
+    let highest : tie.After-highest = speeds .before .before .before .before in
     let ran : tie.After-carry-on = highest .before .before .before .before .before in
-    let sound : tie.Else2 = ran .before .before .before .before .before .before in
+    let sound : tie.Else2 = ran .before .before .before .before .before .before .before .before in
     let fit : tie.After-acceptable = sound .before .before in
     ran .carry-on .ensures ∙ sym (run-ran _ _ (first-yes (yes-20 (asked-21 fit))) _ _ (within (sound .before)) (is-yes (acceptable-is fit) (sound .if2 .left)))
 
@@ -97,7 +99,11 @@ run-on-spec =
     (λ c. search needs)
     (λ c. search needs)
     (λ c. search needs)
+    (λ c. search needs)
+    (λ c. search needs)
     returns
+    (λ c. search needs)
+    (λ c. search needs)
     (λ c. search needs)
     (λ c. search needs)
     (λ c. search needs)
@@ -105,6 +111,8 @@ run-on-spec =
     returns-2
     carry-on-requires
     returns-3
+    (λ c. search needs)
+    (λ c. search needs)
     (λ c. search needs)
     (λ c. search needs)
     (λ c. search needs)

@@ -6,13 +6,15 @@ use Rattle.surgelist.proofs.print_listing.Tie as tie
 
 part-write-all-end : tie.Need-part-write-all-end
 part-write-all-end c =
-    let heads : tie.After-heads2 = c .before .before .before .before .before .before in
+    let heads : tie.After-heads2 = c .before .before .before .before .before .before .before .before in
     front-within (heads .before .write-listing-of .ensures)
 
 pub print-listing-spec : {M : Type 1} → statement M
 print-listing-spec =
     tie.close
     (tie.spec
+    (λ c. search needs)
+    (λ c. search needs)
     (λ c. search needs)
     (λ c. search needs)
     (λ c. search needs)

@@ -4,11 +4,12 @@ use crate::cases::{self, Call};
 use crate::ours::{self, Answer};
 use crate::outlets;
 use crate::tally::Tally;
+use crate::trips;
 use crate::ways;
 use reference::generate::Random;
 use reference::reader;
 use reference::refusal::Refused;
-use reference::rows::{Lengths, RowStore, Rows, SPARE};
+use reference::rows::{Lengths, RowStore, Rows, INFLOWS, SPARE, SPEEDS};
 use reference::run::{self, Cause, Ran};
 
 /// Entries that the rows have past those lent.
@@ -50,12 +51,14 @@ impl Lent {
 
     pub fn rows(&mut self) -> Rows<'_> {
         let lengths = self.lengths;
-        let [heads, flows, highest, lowest, spare] = &mut self.store.rows;
+        let [heads, flows, highest, lowest, speeds, inflows, spare] = &mut self.store.rows;
         Rows {
             heads: &mut heads[..lengths[0]],
             flows: &mut flows[..lengths[1]],
             highest: &mut highest[..lengths[2]],
             lowest: &mut lowest[..lengths[3]],
+            speeds: &mut speeds[..lengths[SPEEDS]],
+            inflows: &mut inflows[..lengths[INFLOWS]],
             spare: &mut spare[..lengths[SPARE]],
         }
     }
@@ -72,6 +75,9 @@ pub fn start(tally: &mut Tally, job: &[u8], lent: &mut Lent) -> Answer {
     same("start", job, answer, expected, lent, &other);
     tally.count("starts", 1);
     cases::count(tally, job, Call::Start, &before, answer);
+    if answer.number == 0 {
+        trips::count_start(tally, job);
+    }
     tally.answer(answer)
 }
 
@@ -83,6 +89,10 @@ pub fn run_on(tally: &mut Tally, job: &[u8], done: u64, count: u64, lent: &mut L
     same("run-on", job, answer, expected, lent, &other);
     tally.count("run-ons", 1);
     cases::count(tally, job, Call::RunOn(count), &before, answer);
+    if matches!(answer.number, 0 | 40 | 41) {
+        let call = trips::Call { done, count, before: &before, after: lent, answer };
+        trips::count(tally, job, &call);
+    }
     if count > 0 && matches!(answer.number, 0 | 40 | 41) {
         outlets::count(tally, job, done + 1, before);
     }

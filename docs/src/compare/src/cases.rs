@@ -5,7 +5,7 @@ use crate::ours::Answer;
 use crate::tally::Tally;
 use reference::job::Job;
 use reference::reader::read;
-use reference::rows::{Lengths, SPARE};
+use reference::rows::{Lengths, INFLOWS, ROWS, SPARE, SPEEDS};
 
 /// What is asked of a call.
 #[derive(Clone, Copy)]
@@ -32,19 +32,37 @@ const PAST_LONG: &str =
     "nodes past the end of a schedule of more than 255 entries at the last step of a run-on";
 
 /// Calls refused for one slice alone, in the order of the slices.
-const ALONE: [&str; 5] = [
+const ALONE: [&str; ROWS] = [
     "calls refused for the heads alone",
     "calls refused for the flows alone",
     "calls refused for the maxima alone",
     "calls refused for the minima alone",
+    "calls refused for the speeds alone",
+    "calls refused for the inflows alone",
     "calls refused for the spare alone",
+];
+
+/// Of speeds and of inflows.
+type OfPairs = [&'static str; 2];
+const PAIRS_ONE_SHORT: OfPairs = [
+    "calls refused for the speeds alone one entry too short",
+    "calls refused for the inflows alone one entry too short",
+];
+const PAIRS_UNDER_SECTIONS: OfPairs = [
+    "calls with speeds of exactly the node count, below the section count",
+    "calls with inflows of exactly the node count, below the section count",
+];
+const PAIRS_LONGER: OfPairs = [
+    "calls with more speeds than nodes, later entries untouched",
+    "calls with more inflows than nodes, later entries untouched",
 ];
 
 /// Every case that must be reached.
 pub fn all() -> Vec<&'static str> {
     let spare = [SPARE_ONE_SHORT, SPARE_OF_SECTIONS, SPARE_ENOUGH, SPARE_UNDER_SECTIONS];
     let nans = [NANS_STARTED, NANS_FINISHED, NANS_NO_STEPS, NANS_STOPPED, NANS_REFUSED];
-    [&ALONE[..], &spare, &[SPARE_LONGER], &nans, &[PAST_255, PAST_LONG]].concat()
+    let pairs = [PAIRS_ONE_SHORT, PAIRS_UNDER_SECTIONS, PAIRS_LONGER].concat();
+    [&ALONE[..], &pairs, &spare, &[SPARE_LONGER], &nans, &[PAST_255, PAST_LONG]].concat()
 }
 
 /// Counts the cases of a call that was answered so, the slices as they were lent.
@@ -61,6 +79,7 @@ pub fn count(tally: &mut Tally, job: &[u8], call: Call, lent: &Lent, answer: Ans
     }
     if !matches!(answer.number, 20..=22) {
         long_enough(tally, needed, lent.lengths[SPARE]);
+        pairs_long_enough(tally, needed, lent.lengths);
     }
     if lent.store.rows[SPARE][..needed[SPARE]].iter().all(|x| x.is_nan()) {
         tally.count(of_nans(call, answer), 1);
@@ -83,6 +102,9 @@ fn too_short(tally: &mut Tally, needed: Lengths, lent: Lengths) {
         return;
     };
     tally.count(ALONE[row], 1);
+    if matches!(row, SPEEDS | INFLOWS) && lent[row] + 1 == needed[row] {
+        tally.count(PAIRS_ONE_SHORT[row - SPEEDS], 1);
+    }
     if row == SPARE && lent[SPARE] + 1 == needed[SPARE] {
         tally.count(SPARE_ONE_SHORT, 1);
     }
@@ -99,6 +121,16 @@ fn long_enough(tally: &mut Tally, needed: Lengths, spare: usize) {
     tally.count(SPARE_ENOUGH, 1);
     if spare < needed[0] {
         tally.count(SPARE_UNDER_SECTIONS, 1);
+    }
+}
+
+fn pairs_long_enough(tally: &mut Tally, needed: Lengths, lent: Lengths) {
+    for row in [SPEEDS, INFLOWS] {
+        if lent[row] > needed[row] {
+            tally.count(PAIRS_LONGER[row - SPEEDS], 1);
+        } else if lent[row] < needed[0] {
+            tally.count(PAIRS_UNDER_SECTIONS[row - SPEEDS], 1);
+        }
     }
 }
 

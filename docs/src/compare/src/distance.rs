@@ -1,4 +1,5 @@
-//! Distances in reaches: neighbouring sections are one reach apart, ends at one node none.
+//! Distances in reaches: neighbouring sections are one reach apart, ends at one node none. A node is as far as the
+//! nearest of its ends.
 
 use reference::draft::Draft;
 use std::collections::VecDeque;
@@ -31,6 +32,15 @@ pub fn from_node(draft: &Draft, node: u8) -> Vec<Option<u64>> {
         }
     }
     far
+}
+
+/// How far each node is, by the distances of the sections.
+pub fn of_nodes(draft: &Draft, sections: &[Option<u64>]) -> Vec<Option<u64>> {
+    let ends = ends(draft);
+    let at = |node: usize| ends.iter().filter(move |&&(at, _)| usize::from(at) == node);
+    (0..draft.nodes.len())
+        .map(|node| at(node).filter_map(|&(_, section)| sections[section]).min())
+        .collect()
 }
 
 /// Each pipe end: its node and its section.

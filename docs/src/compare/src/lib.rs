@@ -4,9 +4,10 @@
 //!   a valve.
 //! - [`parts`]: what is compared; [`tally`]: how many of each, and which numbers were reached.
 //! - Which cases were reached: [`cases`], of the lent slices and of long schedules; [`ways`], of the
-//!   refusals; [`outlets`], of the valves and pumps; [`set_cases`], of calls to set a valve;
+//!   refusals; [`outlets`], of the valves and pumps; [`trips`], of pumps whose power fails;
+//!   [`set_cases`], of calls to set a valve;
 //!   [`cut_down`]: the root as it was, to count where it differs.
-//! - [`distance`]: how far each section is from a node, for demand 3.
+//! - [`distance`]: how far each section and each node is from a node, for demand 3.
 
 pub mod both;
 pub mod cases;
@@ -18,4 +19,5 @@ pub mod parts;
 pub mod set_cases;
 pub mod setting;
 pub mod tally;
+pub mod trips;
 pub mod ways;

@@ -16,6 +16,10 @@ extern "C" {
         highest_length: usize,
         lowest: *mut f64,
         lowest_length: usize,
+        speeds: *mut f64,
+        speeds_length: usize,
+        inflows: *mut f64,
+        inflows_length: usize,
         spare: *mut f64,
         spare_length: usize,
     ) -> u64;
@@ -32,6 +36,10 @@ extern "C" {
         highest_length: usize,
         lowest: *mut f64,
         lowest_length: usize,
+        speeds: *mut f64,
+        speeds_length: usize,
+        inflows: *mut f64,
+        inflows_length: usize,
         spare: *mut f64,
         spare_length: usize,
     ) -> u64;
@@ -85,24 +93,26 @@ pub fn read(job: &[u8]) -> Answer {
 
 /// The start, lent the first `lengths` entries of the rows.
 pub fn start(job: &[u8], rows: &mut RowStore, lengths: Lengths) -> Answer {
-    let [a, b, c, d, e] = pointers(rows, lengths);
-    let [la, lb, lc, ld, le] = lengths;
+    let [a, b, c, d, e, f, g] = pointers(rows, lengths);
+    let [la, lb, lc, ld, le, lf, lg] = lengths;
     // SAFETY: `pointers` has seen that each row holds what is lent of it; the rows are slices of their own, borrowed
     // mutably here, and the job is only read.
-    let packed =
-        unsafe { vintuqay_start(job.as_ptr(), job.len(), a, la, b, lb, c, lc, d, ld, e, le) };
+    let packed = unsafe {
+        vintuqay_start(job.as_ptr(), job.len(), a, la, b, lb, c, lc, d, ld, e, le, f, lf, g, lg)
+    };
     Answer::unpacked(packed)
 }
 
 /// The run-on, lent the first `lengths` entries of the rows.
 pub fn run_on(job: &[u8], done: u64, count: u64, rows: &mut RowStore, lengths: Lengths) -> Answer {
-    let [a, b, c, d, e] = pointers(rows, lengths);
-    let [la, lb, lc, ld, le] = lengths;
+    let [a, b, c, d, e, f, g] = pointers(rows, lengths);
+    let [la, lb, lc, ld, le, lf, lg] = lengths;
     let (bytes, size) = (job.as_ptr(), job.len());
     // SAFETY: `pointers` has seen that each row holds what is lent of it; the rows are slices of their own, borrowed
     // mutably here, and the job is only read.
-    let packed =
-        unsafe { vintuqay_run_on(bytes, size, done, count, a, la, b, lb, c, lc, d, ld, e, le) };
+    let packed = unsafe {
+        vintuqay_run_on(bytes, size, done, count, a, la, b, lb, c, lc, d, ld, e, le, f, lf, g, lg)
+    };
     Answer::unpacked(packed)
 }
 
@@ -117,7 +127,7 @@ pub fn set_valve(
     coefficient: &mut f64,
 ) -> u64 {
     let [lh, lf] = lengths;
-    let [heads, flows, ..] = pointers(rows, [lh, lf, 0, 0, 0]);
+    let [heads, flows, ..] = pointers(rows, [lh, lf, 0, 0, 0, 0, 0]);
     let (bytes, size) = (job.as_mut_ptr(), job.len());
     // SAFETY: `pointers` has seen that each row holds what is lent of it; job, rows and coefficient are apart from each
     // other and borrowed mutably here.

@@ -4,7 +4,7 @@ use crate::both::Lent;
 use crate::cut_down::cut_down;
 use crate::tally::Tally;
 use reference::job::Kind;
-use reference::node::{head, head_by, valve_w_y};
+use reference::node::{head, solve_by, valve_w_y};
 use reference::reader::read;
 use reference::run::sums;
 use reference::wave::Sums;
@@ -43,12 +43,14 @@ pub fn count(tally: &mut Tally, job: &[u8], step: u64, mut lent: Lent) {
     let Ok(job) = read(job) else {
         return;
     };
-    for (node, sums) in job.nodes.iter().zip(sums(&job, &lent.rows())) {
-        let (kind, v) = (node.kind, node.value_at(step));
+    let all_sums = sums(&job, &lent.rows());
+    for (number, (node, sums)) in job.nodes.iter().zip(all_sums).enumerate() {
+        let (speed, inflow) = (lent.store.speeds()[number], lent.store.inflows()[number]);
+        let (kind, v) = (node.kind, job.value_at(number, step, speed, inflow));
         if let Kind::Valve { a, b } = kind {
             count_valve(tally, v, a, b, sums);
         }
-        if head(kind, v, sums).to_bits() != head_by(cut_down, kind, v, sums).to_bits() {
+        if head(kind, v, sums).to_bits() != solve_by(cut_down, kind, v, sums).head.to_bits() {
             // A junction or a reservoir takes no root.
             let valve = matches!(kind, Kind::Valve { .. });
             tally.count(if valve { VALVE_TO_NEAREST } else { PUMP_TO_NEAREST }, 1);

@@ -1,6 +1,6 @@
 //! What is compared, each part with a seed of its own.
 
-use crate::{cases, outlets, set_cases, ways};
+use crate::{cases, outlets, set_cases, trips, ways};
 
 mod calls;
 mod edits;
@@ -24,10 +24,12 @@ pub use settings::settings;
 pub fn to_be_reached() -> Vec<(&'static str, u64)> {
     let mut cases = cases::all();
     cases.extend(outlets::all());
-    cases.extend([lists::SPARE_TOO_SHORT, forms::LONGEST_FULL, forms::LONGEST_EMPTY]);
+    cases.push(lists::SPARE_TOO_SHORT);
+    cases.extend([forms::LONGEST_FULL, forms::LONGEST_EMPTY, forms::LONGEST_SEVEN]);
     let mut counts: Vec<_> = cases.into_iter().map(|case| (case, 1)).collect();
     counts.extend(ways::all().into_iter().map(|way| (way, 5)));
-    counts.push(forms::IN_ALL_FORMS);
+    counts.extend(trips::all().into_iter().map(|case| (case, 10)));
+    counts.extend([forms::IN_ALL_FORMS, forms::IN_BOTH_OF_SEVEN]);
     counts.extend(edits::all());
     counts.extend(roots::all());
     counts.extend(set_cases::all());

@@ -41,7 +41,7 @@ impl LentToSet {
     /// So many entries lent out of some more. Every entry is a NaN of its own payload, or all hold one pattern.
     pub fn new(random: &mut Random, lengths: [usize; 2]) -> LentToSet {
         let [heads, flows] = lengths.map(|length| length + MORE);
-        let mut store = RowStore::marked([heads, flows, 0, 0, 0]);
+        let mut store = RowStore::marked([heads, flows, 0, 0, 0, 0, 0]);
         if random.once_in(3) {
             let held = f64::from_bits(random.pick(&HELD));
             store.rows.iter_mut().for_each(|row| row.fill(held));

@@ -1,20 +1,23 @@
-//! The ways to refusals 2, 3, 10, 50 and 15 by the forms of a job. Each must be reached by the comparison.
+//! The ways to refusals 2, 3, 10, 50, 53 and 15 by the forms of a job. Each must be reached by the comparison.
 
 use crate::tally::Tally;
 use reference::fields::{all_f64, u16_at};
-use reference::layout::{pair, pair_at, pair_count, tables, Form, FEWEST_PAIRS, MOST_PAIRS};
+use reference::layout::{pair, pair_at, pair_count, tables, Form, FEWEST_PAIRS};
+
+mod to_53;
 
 /// Refused 2 for the count of pairs.
-const COUNTS: [(usize, &str); 10] = [
+const COUNTS: [(usize, &str); 11] = [
     (0, "refused 2: no pairs"),
     (1, "refused 2: one pair"),
     (2, "refused 2: two pairs"),
     (3, "refused 2: three pairs"),
     (4, "refused 2: four pairs"),
-    (7, "refused 2: seven pairs"),
     (8, "refused 2: eight pairs"),
+    (9, "refused 2: nine pairs"),
     (5 << 8, "refused 2: 1,280 pairs, which is 5 big-endian"),
     (6 << 8, "refused 2: 1,536 pairs, which is 6 big-endian"),
+    (7 << 8, "refused 2: 1,792 pairs, which is 7 big-endian"),
     (65_535, "refused 2: 65,535 pairs"),
 ];
 
@@ -30,39 +33,96 @@ const SIX_SHORT: [&str; 8] = [
     "refused 2: six pairs in 53 bytes",
 ];
 
-/// By the number of pairs, five and six.
-type ByPairs = [&'static str; 2];
-const FIRST: ByPairs =
-    ["refused 3: five pairs, the first table at 54", "refused 3: six pairs, the first table at 46"];
-const GAP: ByPairs = ["refused 3: five pairs, a gap", "refused 3: six pairs, a gap"];
-const OVERLAP: ByPairs = ["refused 3: five pairs, an overlap", "refused 3: six pairs, an overlap"];
+/// The same for seven pairs.
+const SEVEN_SHORT: [&str; 16] = [
+    "refused 2: seven pairs in 46 bytes",
+    "refused 2: seven pairs in 47 bytes",
+    "refused 2: seven pairs in 48 bytes",
+    "refused 2: seven pairs in 49 bytes",
+    "refused 2: seven pairs in 50 bytes",
+    "refused 2: seven pairs in 51 bytes",
+    "refused 2: seven pairs in 52 bytes",
+    "refused 2: seven pairs in 53 bytes",
+    "refused 2: seven pairs in 54 bytes",
+    "refused 2: seven pairs in 55 bytes",
+    "refused 2: seven pairs in 56 bytes",
+    "refused 2: seven pairs in 57 bytes",
+    "refused 2: seven pairs in 58 bytes",
+    "refused 2: seven pairs in 59 bytes",
+    "refused 2: seven pairs in 60 bytes",
+    "refused 2: seven pairs in 61 bytes",
+];
+
+/// By the number of pairs, five to seven.
+type ByPairs = [&'static str; 3];
+/// The first table where another number of pairs ends: by the number of pairs, and by the other.
+const FIRST: [ByPairs; 3] = [
+    [
+        "",
+        "refused 3: five pairs, the first table where six end",
+        "refused 3: five pairs, the first table where seven end",
+    ],
+    [
+        "refused 3: six pairs, the first table where five end",
+        "",
+        "refused 3: six pairs, the first table where seven end",
+    ],
+    [
+        "refused 3: seven pairs, the first table where five end",
+        "refused 3: seven pairs, the first table where six end",
+        "",
+    ],
+];
+const GAP: ByPairs = [
+    "refused 3: five pairs, a gap",
+    "refused 3: six pairs, a gap",
+    "refused 3: seven pairs, a gap",
+];
+const OVERLAP: ByPairs = [
+    "refused 3: five pairs, an overlap",
+    "refused 3: six pairs, an overlap",
+    "refused 3: seven pairs, an overlap",
+];
 const EARLY: ByPairs = [
     "refused 3: five pairs, the last table ends before the file",
     "refused 3: six pairs, the last table ends before the file",
+    "refused 3: seven pairs, the last table ends before the file",
 ];
 const LATE: ByPairs = [
     "refused 3: five pairs, the last table ends after the file",
     "refused 3: six pairs, the last table ends after the file",
+    "refused 3: seven pairs, the last table ends after the file",
 ];
 const WRAPPED: ByPairs = [
     "refused 3: five pairs, sums that are right at 2^32",
     "refused 3: six pairs, sums that are right at 2^32",
+    "refused 3: seven pairs, sums that are right at 2^32",
 ];
 
 /// By the form, in the order of `Form::ALL`.
-type ByForm = [&'static str; 3];
+type ByForm = [&'static str; 5];
 const KIND_4: ByForm = [
     "refused 10: five pairs, kind 4",
-    "refused 10: table 6 empty, kind 4",
-    "refused 10: table 6 full, kind 4",
+    "refused 10: six pairs, table 6 empty, kind 4",
+    "refused 10: six pairs, table 6 full, kind 4",
+    "refused 10: seven pairs, table 6 empty, kind 4",
+    "refused 10: seven pairs, table 6 full, kind 4",
 ];
 const KIND_255: ByForm = [
     "refused 10: five pairs, kind 255",
-    "refused 10: table 6 empty, kind 255",
-    "refused 10: table 6 full, kind 255",
+    "refused 10: six pairs, table 6 empty, kind 255",
+    "refused 10: six pairs, table 6 full, kind 255",
+    "refused 10: seven pairs, table 6 empty, kind 255",
+    "refused 10: seven pairs, table 6 full, kind 255",
 ];
-const BYTE_0: [&str; 2] =
-    ["refused 10: five pairs, a byte of 0", "refused 10: table 6 empty, a byte of 0"];
+/// Of no form that counts in table 6.
+const BYTE_0: ByForm = [
+    "refused 10: five pairs, a byte of 0",
+    "refused 10: six pairs, table 6 empty, a byte of 0",
+    "",
+    "refused 10: seven pairs, table 6 empty, a byte of 0",
+    "",
+];
 const KIND_AND_LENGTH: &str = "refused 10: a kind that there is not, and table 6 of another length";
 
 /// Refused 50 for the length of table 6.
@@ -88,6 +148,9 @@ const BYTE_NOT_0: ByPlace = [
 /// Two questions broken, the first of which decides; counted where the job is made.
 pub const TEN_AND_FIFTY: &str = "refused 10, which 50 would refuse too";
 pub const FIFTY_AND_ELEVEN: &str = "refused 50, which 11 would refuse too";
+pub const TEN_AND_FIFTY_THREE: &str = "refused 10, which 53 would refuse too";
+pub const FIFTY_AND_FIFTY_THREE: &str = "refused 50, which 53 would refuse too";
+pub const FIFTY_THREE_AND_ELEVEN: &str = "refused 53, which 11 would refuse too";
 
 /// Refused 15 where table 6 counts.
 const ENTRY_SHORT: &str = "refused 15: table 6 full, table 5 one entry short";
@@ -116,13 +179,16 @@ pub fn all() -> Vec<&'static str> {
         [ENTRY_SHORT, ENTRY_LONG, BIG_ENDIAN, LOW_BYTES, LATE_NOT_FINITE, LATE_OUT_OF_RANGE];
     let mut all: Vec<_> = COUNTS.iter().map(|&(_, way)| way).collect();
     all.extend(SIX_SHORT);
-    all.extend([FIRST, GAP, OVERLAP, EARLY, LATE, WRAPPED].concat());
+    all.extend(SEVEN_SHORT);
+    all.extend(FIRST.concat().into_iter().chain(BYTE_0).filter(|way| !way.is_empty()));
+    all.extend([GAP, OVERLAP, EARLY, LATE, WRAPPED].concat());
     all.extend([KIND_4, KIND_255].concat());
-    all.extend(BYTE_0);
     all.push(KIND_AND_LENGTH);
     all.extend(lengths);
     all.extend([COUNT_0, BYTE_NOT_0].concat());
     all.extend([TEN_AND_FIFTY, FIFTY_AND_ELEVEN]);
+    all.extend([TEN_AND_FIFTY_THREE, FIFTY_AND_FIFTY_THREE, FIFTY_THREE_AND_ELEVEN]);
+    all.extend(to_53::all());
     all.extend(entries);
     all.extend([ENDS_BY_BYTES, ENDS_BY_TABLE_6].concat());
     all
@@ -135,6 +201,7 @@ pub fn count(tally: &mut Tally, job: &[u8], number: u64) {
         3 => to_3(job),
         10 => to_10(tally, job),
         50 => to_50(job),
+        53 => return to_53::count(tally, job),
         15 => to_15(tally, job),
         _ => None,
     };
@@ -145,8 +212,11 @@ pub fn count(tally: &mut Tally, job: &[u8], number: u64) {
 
 fn to_2(job: &[u8]) -> Option<&'static str> {
     let count = pair_count(job);
-    if count == Form::FullTable6.pairs() {
-        return Some(SIX_SHORT[job.len() - pair_at(FEWEST_PAIRS)]);
+    let past_fewest = job.len() - pair_at(FEWEST_PAIRS);
+    match count {
+        6 => return Some(SIX_SHORT[past_fewest]),
+        7 => return Some(SEVEN_SHORT[past_fewest]),
+        _ => {}
     }
     COUNTS.iter().find(|&&(counted, _)| counted == count).map(|&(_, way)| way)
 }
@@ -158,11 +228,10 @@ fn to_3(job: &[u8]) -> Option<&'static str> {
     let mut first = None;
     for (number, (offset, length)) in pairs.clone().enumerate() {
         if offset != end && first.is_none() {
-            let other = pair_at(FEWEST_PAIRS + MOST_PAIRS - count) as u64;
-            first = match number {
-                0 if offset == other => Some(FIRST),
-                _ => Some(if offset > end { GAP } else { OVERLAP }),
-            };
+            let other = (0..FIRST.len())
+                .find(|other| number == 0 && offset == pair_at(FEWEST_PAIRS + other) as u64);
+            let apart = if offset > end { GAP } else { OVERLAP };
+            first = Some(other.map_or(apart[by_pairs], |other| FIRST[by_pairs][other]));
         }
         end = offset + length;
     }
@@ -172,12 +241,11 @@ fn to_3(job: &[u8]) -> Option<&'static str> {
         right
     });
     let at_file = if end < job.len() as u64 { EARLY } else { LATE };
-    let way = if sums_right && wrapped as usize == job.len() {
-        WRAPPED
+    if sums_right && wrapped as usize == job.len() {
+        Some(WRAPPED[by_pairs])
     } else {
-        first.unwrap_or(at_file)
-    };
-    Some(way[by_pairs])
+        first.or(Some(at_file[by_pairs]))
+    }
 }
 
 /// Kind and byte of each node's record.
@@ -197,7 +265,7 @@ fn to_10(tally: &mut Tally, job: &[u8]) -> Option<&'static str> {
         Some(4) => Some(KIND_4[form]),
         Some(255) => Some(KIND_255[form]),
         Some(_) => None,
-        None => BYTE_0.get(form).copied(),
+        None => Some(BYTE_0[form]).filter(|way| !way.is_empty()),
     }
 }
 
@@ -234,7 +302,7 @@ fn to_50(job: &[u8]) -> Option<&'static str> {
 }
 
 fn to_15(tally: &mut Tally, job: &[u8]) -> Option<&'static str> {
-    let [_, node_table, _, _, schedules, count_table] = tables(job);
+    let [_, node_table, _, _, schedules, count_table, _] = tables(job);
     let nodes = kinds_and_bytes(node_table);
     if count_table.is_empty() {
         let counts: Vec<u16> = nodes.iter().map(|&(_, byte)| byte.into()).collect();

@@ -1,7 +1,7 @@
 //! A job as a program puts it together, before it is written down as bytes. Nothing is judged
 //! here, so that jobs to be refused can be written too.
 
-use crate::job::Kind;
+use crate::job::{Kind, Trip};
 use crate::layout::{pair_at, Form, MOST_PAIRS};
 use crate::reader::read;
 use crate::refusal::Refused;
@@ -18,6 +18,16 @@ pub struct Draft {
     pub friction: Vec<f64>,
     /// Head, flow and floor head of each section.
     pub sections: Vec<[f64; 3]>,
+    /// The records of table 7, for which the form has seven pairs.
+    pub trips: Vec<DraftTrip>,
+}
+
+#[derive(Clone, Copy, Debug, PartialEq)]
+pub struct DraftTrip {
+    pub node: u16,
+    pub step: u32,
+    /// G, t0 and t1.
+    pub constants: [f64; 3],
 }
 
 #[derive(Clone, Debug, PartialEq)]
@@ -35,6 +45,13 @@ pub struct DraftNode {
     pub figures: [f64; 3],
     /// At most as many entries as the draft's form can count.
     pub schedule: Vec<f64>,
+}
+
+impl DraftTrip {
+    fn of(trip: &Trip) -> DraftTrip {
+        let Trip { node, step, g, t0, t1 } = *trip;
+        DraftTrip { node: node as u16, step, constants: [g, t0, t1] }
+    }
 }
 
 impl DraftNode {
@@ -74,6 +91,12 @@ impl Draft {
         self.sections.push([head, flow, floor]);
     }
 
+    /// Adds a record of table 7; the form becomes one of seven pairs.
+    pub fn trip(&mut self, node: u8, step: u32, constants: [f64; 3]) {
+        self.trips.push(DraftTrip { node: node.into(), step, constants });
+        self.form = self.form.of_seven();
+    }
+
     /// Sections that the pipes have in all.
     pub fn section_count(&self) -> usize {
         self.pipes.iter().map(|pipe| usize::from(pipe.reaches) + 1).sum()
@@ -81,7 +104,7 @@ impl Draft {
 
     /// What question 20 asks each slice lent with the job to hold.
     pub fn needed(&self) -> Lengths {
-        needed(self.section_count(), self.pipes.len())
+        needed(self.section_count(), self.nodes.len(), self.pipes.len())
     }
 
     /// How many bytes the job has.
@@ -94,13 +117,26 @@ impl Draft {
         self.nodes.iter().map(|node| node.schedule.len()).max().unwrap_or(0)
     }
 
-    /// Five pairs where a byte counts each schedule, else six with a full table 6.
+    /// Five pairs where a byte counts each schedule, else six with a full table 6; seven that count alike
+    /// where there is a trip.
     pub fn fewest_pairs(&self) -> Form {
-        if self.longest_schedule() <= Form::FivePairs.most_entries() {
+        let counted = if self.longest_schedule() <= Form::FivePairs.most_entries() {
             Form::FivePairs
         } else {
             Form::FullTable6
+        };
+        if self.trips.is_empty() {
+            counted
+        } else {
+            counted.of_seven()
         }
+    }
+
+    /// The forms that can hold the job.
+    pub fn forms(&self) -> Vec<Form> {
+        let forms = if self.trips.is_empty() { &Form::ALL[..] } else { &Form::OF_SEVEN };
+        let longest = self.longest_schedule();
+        forms.iter().copied().filter(|form| longest <= form.most_entries()).collect()
     }
 
     /// The same job in another form.
@@ -140,7 +176,7 @@ impl Draft {
         }
         for node in &self.nodes {
             let (count, mut byte) = (node.schedule.len(), 0);
-            if self.form == Form::FullTable6 {
+            if self.form.counts_in_table_6() {
                 let count = u16::try_from(count).expect("a u16 counts the schedule");
                 tables[5].extend(count.to_le_bytes());
             } else {
@@ -154,6 +190,12 @@ impl Draft {
         for section in &self.sections {
             push_numbers(&mut tables[3], section);
         }
+        for trip in &self.trips {
+            tables[6].extend(trip.node.to_le_bytes());
+            tables[6].extend(trip.step.to_le_bytes());
+            push_numbers(&mut tables[6], &trip.constants);
+        }
+        assert!(self.form.pairs() == MOST_PAIRS || self.trips.is_empty(), "a trip has a table 7");
         tables.into_iter().take(self.form.pairs()).collect()
     }
 
@@ -179,6 +221,7 @@ impl Draft {
             nodes: nodes.collect(),
             friction: job.friction,
             sections: job.initial.iter().map(|at| [at.head, at.flow, at.floor]).collect(),
+            trips: job.trips.iter().map(DraftTrip::of).collect(),
         })
     }
 }

@@ -4,9 +4,9 @@ use crate::fields::{u16_at, u32_at};
 
 /// Pairs that a job has at the least and at the most; its tables are the first so many.
 pub const FEWEST_PAIRS: usize = 5;
-pub const MOST_PAIRS: usize = 6;
+pub const MOST_PAIRS: usize = 7;
 
-/// How a job counts the entries of its schedules.
+/// How many pairs a job has, and how it counts the entries of its schedules.
 #[derive(Clone, Copy, Debug, Default, PartialEq, Eq)]
 pub enum Form {
     /// Five pairs: a byte in each node's record.
@@ -16,10 +16,22 @@ pub enum Form {
     EmptyTable6,
     /// Six pairs: a u16 per node in table 6, and the byte is zero.
     FullTable6,
+    /// Seven pairs, the schedules counted as in the form of six; table 7 may be empty or not.
+    SevenEmptyTable6,
+    SevenFullTable6,
 }
 
 impl Form {
-    pub const ALL: [Form; 3] = [Form::FivePairs, Form::EmptyTable6, Form::FullTable6];
+    pub const ALL: [Form; 5] = [
+        Form::FivePairs,
+        Form::EmptyTable6,
+        Form::FullTable6,
+        Form::SevenEmptyTable6,
+        Form::SevenFullTable6,
+    ];
+
+    /// Those that have a table 7, and so may have trips.
+    pub const OF_SEVEN: [Form; 2] = [Form::SevenEmptyTable6, Form::SevenFullTable6];
 
     /// Its place in `ALL`.
     pub fn place(self) -> usize {
@@ -30,25 +42,37 @@ impl Form {
         match self {
             Form::FivePairs => FEWEST_PAIRS,
             Form::EmptyTable6 | Form::FullTable6 => 6,
+            Form::SevenEmptyTable6 | Form::SevenFullTable6 => 7,
+        }
+    }
+
+    /// Whether table 6 counts the schedules.
+    pub fn counts_in_table_6(self) -> bool {
+        matches!(self, Form::FullTable6 | Form::SevenFullTable6)
+    }
+
+    /// The form of seven pairs that counts alike.
+    pub fn of_seven(self) -> Form {
+        if self.counts_in_table_6() {
+            Form::SevenFullTable6
+        } else {
+            Form::SevenEmptyTable6
         }
     }
 
     /// Entries that a schedule has at the most, by the width of its count.
     pub fn most_entries(self) -> usize {
-        match self {
-            Form::FivePairs | Form::EmptyTable6 => usize::from(u8::MAX),
-            Form::FullTable6 => usize::from(u16::MAX),
-        }
+        usize::from(if self.counts_in_table_6() { u16::MAX } else { u8::MAX.into() })
     }
 
     /// The form of a job that is accepted.
     pub fn of(job: &[u8]) -> Form {
-        if pair_count(job) == Form::FivePairs.pairs() {
-            Form::FivePairs
-        } else if tables(job)[5].is_empty() {
-            Form::EmptyTable6
-        } else {
-            Form::FullTable6
+        match (pair_count(job), tables(job)[5].is_empty()) {
+            (FEWEST_PAIRS, _) => Form::FivePairs,
+            (6, true) => Form::EmptyTable6,
+            (6, false) => Form::FullTable6,
+            (_, true) => Form::SevenEmptyTable6,
+            (_, false) => Form::SevenFullTable6,
         }
     }
 }

@@ -1,4 +1,4 @@
-//! The head at a node of each kind.
+//! The head at a node of each kind, and the inflow of a pump.
 
 use crate::job::Kind;
 use crate::root::root;
@@ -10,29 +10,51 @@ fn root_taken(x: f64) -> Option<f64> {
     root(x).ok()
 }
 
-/// H of a node whose scheduled value at the step is `v`.
-pub fn head(kind: Kind, v: f64, sums: Sums) -> f64 {
-    head_by(root_taken, kind, v, sums)
+/// What a step has at a node: H, and the pump's q, which is +0 at the other kinds.
+#[derive(Clone, Copy, Debug, PartialEq)]
+pub struct Solved {
+    pub head: f64,
+    pub inflow: f64,
 }
 
-/// H of a node, by a given way to take roots: plus infinity where B, T or the argument of a root
-/// that is taken is not finite.
+impl Solved {
+    /// Where B, T or the argument of a root that is taken is not finite. The paper names no inflow there,
+    /// and none is seen, for the run stops.
+    const PLUS_INFINITY: Solved = Solved { head: f64::INFINITY, inflow: 0.0 };
+
+    #[inline(always)]
+    fn without_inflow(head: f64) -> Solved {
+        Solved { head, inflow: 0.0 }
+    }
+}
+
+/// H of a node whose value at the step is `v`.
+pub fn head(kind: Kind, v: f64, sums: Sums) -> f64 {
+    solve(kind, v, sums).head
+}
+
+/// A node whose value at the step is `v`: a pump's is its speed.
+pub fn solve(kind: Kind, v: f64, sums: Sums) -> Solved {
+    solve_by(root_taken, kind, v, sums)
+}
+
+/// The same by a given way to take roots.
 #[inline(always)]
-pub fn head_by(root: impl Fn(f64) -> Option<f64>, kind: Kind, v: f64, sums: Sums) -> f64 {
+pub fn solve_by(root: impl Fn(f64) -> Option<f64>, kind: Kind, v: f64, sums: Sums) -> Solved {
     let Sums { b: sum_k, t } = sums;
     if !(sum_k.is_finite() && t.is_finite()) {
-        return f64::INFINITY;
+        return Solved::PLUS_INFINITY;
     }
     match kind {
-        Kind::Junction => (sum_k - v) / t,
-        Kind::Reservoir => v,
+        Kind::Junction => Solved::without_inflow((sum_k - v) / t),
+        Kind::Reservoir => Solved::without_inflow(v),
         Kind::Valve { a, b } => match valve_flow(root, v, a, b, sums) {
-            Some(q) => (sum_k - q) / t,
-            None => f64::INFINITY,
+            Some(q) => Solved::without_inflow((sum_k - q) / t),
+            None => Solved::PLUS_INFINITY,
         },
         Kind::Pump { a, b, c } => match pump_flow(root, v, [a, b, c], sums) {
-            Some(q) => (sum_k + q) / t,
-            None => f64::INFINITY,
+            Some(q) => Solved { head: (sum_k + q) / t, inflow: q },
+            None => Solved::PLUS_INFINITY,
         },
     }
 }
@@ -109,6 +131,17 @@ mod tests {
         assert_eq!(head(PUMP_OF_P8, 1.0, sums(2.0, 1.0)), 4.0);
         assert_eq!(pump_flow(root_taken, 0.0, [10.0, 1.5, 0.0], sums(2.0, 1.0)), Some(0.0));
         assert_eq!(head(PUMP_OF_P8, 0.0, sums(2.0, 1.0)), 2.0);
+    }
+
+    #[test]
+    fn the_inflow_is_the_pumps() {
+        assert_eq!(solve(PUMP_OF_P8, 1.0, sums(2.0, 1.0)), Solved { head: 4.0, inflow: 2.0 });
+        for kind in [Kind::Junction, Kind::Reservoir, VALVE_OF_Q] {
+            assert_eq!(solve(kind, 1.0, sums(14.0, 1.0)).inflow.to_bits(), 0);
+        }
+        // A speed that is no number gives a y that is none: not above zero, so nothing comes in.
+        let still = solve(PUMP_OF_P8, f64::NAN, sums(2.0, 1.0));
+        assert_eq!((still.head, still.inflow.to_bits()), (2.0, 0));
     }
 
     #[test]

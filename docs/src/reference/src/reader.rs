@@ -1,13 +1,13 @@
-//! The job reader: questions 1 to 15 with 50 after 10, the first no decides, and each question runs
+//! The job reader: questions 1 to 15 with 50 and 53 after 10, the first no decides, and each question runs
 //! through its whole table before the next.
 
 use crate::fields::{all_f64, f64_at, u16_at, u32_at};
-use crate::job::{Initial, Job, Kind, Node, Pipe};
+use crate::job::{Initial, Job, Kind, Node, Pipe, Trip};
 use crate::layout::{pair_at, pairs_admitted, tables, tables_adjoin, FEWEST_PAIRS};
 use crate::refusal::{ask, Refused};
 
 /// The questions to every call that takes a job, in the order in which they are asked.
-pub const QUESTIONS: [u8; 16] = [1, 2, 3, 4, 5, 6, 7, 8, 9, 10, 50, 11, 12, 13, 14, 15];
+pub const QUESTIONS: [u8; 17] = [1, 2, 3, 4, 5, 6, 7, 8, 9, 10, 50, 53, 11, 12, 13, 14, 15];
 
 /// The count, the steps and the fewest pairs.
 pub const FEWEST_BYTES: usize = pair_at(FEWEST_PAIRS);
@@ -15,6 +15,10 @@ pub const MOST_BYTES: usize = 32_768;
 pub const MOST_STEPS: u64 = 1_000_000;
 pub const MOST_SECTIONS: usize = 512;
 pub const MOST_PIPES: usize = 32;
+pub const MOST_NODES: usize = 32;
+
+/// The bytes of a record of table 7.
+pub const TRIP_BYTES: usize = 30;
 
 /// Asks the questions and hands back what the job says.
 pub fn read(bytes: &[u8]) -> Result<Job, Refused> {
@@ -23,10 +27,10 @@ pub fn read(bytes: &[u8]) -> Result<Job, Refused> {
     ask(3, tables_adjoin(bytes))?;
     let steps = u32_at(bytes, 2);
     ask(4, u64::from(steps) <= MOST_STEPS)?;
-    let [pipe_table, node_table, friction_table, section_table, schedule_table, count_table] =
+    let [pipe_table, node_table, friction_table, section_table, schedule_table, count_table, trip_table] =
         tables(bytes);
     ask(5, whole_records(pipe_table, 12, 1, MOST_PIPES))?;
-    ask(6, whole_records(node_table, 26, 2, 32))?;
+    ask(6, whole_records(node_table, 26, 2, MOST_NODES))?;
     let pipes = read_pipes(pipe_table);
     let nodes: Vec<NodeRecord> = node_table.chunks_exact(26).map(NodeRecord::read).collect();
     ask(7, pipes.iter().all(|pipe| joins(pipe, nodes.len())))?;
@@ -36,6 +40,9 @@ pub fn read(bytes: &[u8]) -> Result<Job, Refused> {
     let byte_counts = count_table.is_empty();
     ask(10, nodes.iter().all(|node| node.kind <= 3 && (!byte_counts || node.byte >= 1)))?;
     ask(50, byte_counts || counts_admitted(count_table, &nodes))?;
+    ask(53, trip_table.len().is_multiple_of(TRIP_BYTES))?;
+    let trips: Vec<Trip> = trip_table.chunks_exact(TRIP_BYTES).map(read_trip).collect();
+    ask(53, trips_admitted(&trips, &nodes))?;
     ask(11, nodes.iter().all(NodeRecord::figures_admitted))?;
     ask(12, (0..nodes.len()).all(|number| has_pipe_end(number, &pipes)))?;
     let reaches: usize = pipes.iter().map(|pipe| pipe.reaches).sum();
@@ -49,7 +56,7 @@ pub fn read(bytes: &[u8]) -> Result<Job, Refused> {
     ask(15, schedule_table.len() == 8 * counts.iter().sum::<usize>())?;
     let nodes = with_schedules(&nodes, &counts, &all_f64(schedule_table));
     ask(15, nodes.iter().all(schedule_admitted))?;
-    Ok(Job { steps, pipes, nodes, friction, initial })
+    Ok(Job { steps, pipes, nodes, friction, initial, trips })
 }
 
 /// Neither zero is below zero; the reader asks this of finite numbers.
@@ -153,6 +160,28 @@ fn counts_in_force(table: &[u8], nodes: &[NodeRecord]) -> Vec<usize> {
         return nodes.iter().map(|node| usize::from(node.byte)).collect();
     }
     table.chunks_exact(2).map(|count| usize::from(u16_at(count, 0))).collect()
+}
+
+fn read_trip(record: &[u8]) -> Trip {
+    Trip {
+        node: usize::from(u16_at(record, 0)),
+        step: u32_at(record, 2),
+        g: f64_at(record, 6),
+        t0: f64_at(record, 14),
+        t1: f64_at(record, 22),
+    }
+}
+
+/// Question 53 where table 7 is whole: each record names a pump, no two the same, and its constants
+/// are finite and not below zero, which -0 is not.
+fn trips_admitted(trips: &[Trip], nodes: &[NodeRecord]) -> bool {
+    let names_pump = |trip: &Trip| nodes.get(trip.node).is_some_and(|node| node.kind == 3);
+    let times_named = |node: usize| trips.iter().filter(|trip| trip.node == node).count();
+    trips.iter().all(|trip| {
+        names_pump(trip)
+            && times_named(trip.node) == 1
+            && [trip.g, trip.t0, trip.t1].into_iter().all(|x| x.is_finite() && not_below_zero(x))
+    })
 }
 
 fn read_section(record: &[u8]) -> Initial {

@@ -20,7 +20,7 @@ impl Refused {
     pub fn words(self) -> &'static str {
         match self.0 {
             1 => "a job has 46 to 32,768 bytes",
-            2 => "a job has five or six pairs of offset and length, all inside the file",
+            2 => "a job has five to seven pairs of offset and length, all inside the file",
             3 => {
                 "the first table begins straight after the pairs, each next one where the last ended, \
                  and the last ends with the file"
@@ -40,9 +40,9 @@ impl Refused {
             13 => "table 3 has one R for each reach, finite and not below zero",
             14 => "table 4 has head, flow and floor head for each section, all finite, and no head is below its floor",
             15 => "table 5 has every node's schedule, all finite, openings and speeds from 0 to 1",
-            20 => "heads, flows and envelopes lent hold the section count, and the spare four values per pipe",
+            20 => "heads, flows and envelopes lent hold the section count, speeds and inflows the node count, and the spare four values per pipe",
             21 => "the steps done are at most 1,000,000, and so are they with the steps asked for",
-            22 => "heads, flows and envelopes lent are finite, and no head is below its floor",
+            22 => "heads, flows, envelopes, speeds and inflows lent are finite, and no head is below its floor",
             23 => "a root is taken of a finite number not below zero",
             24 => "a line is written for a section below 512 into at least 72 bytes",
             50 => {
@@ -54,6 +54,10 @@ impl Refused {
                  junctions whose scheduled values are all zero, and the level and the flow are finite"
             }
             52 => "the two rows lent hold the section count",
+            53 => {
+                "table 7 is made of whole records of 30 bytes, each names a pump and no two the same one, \
+                 and G, t0 and t1 are finite and not below zero"
+            }
             _ => "no question of documents 01 and 02 has this number",
         }
     }

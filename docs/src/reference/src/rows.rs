@@ -1,6 +1,6 @@
-//! The five slices of f64 numbers that start and run-on are lent.
+//! The seven slices of f64 numbers that start and run-on are lent.
 
-use crate::reader::{MOST_PIPES, MOST_SECTIONS};
+use crate::reader::{MOST_NODES, MOST_PIPES, MOST_SECTIONS};
 
 /// The lent slices: the state, the envelopes and the spare.
 pub struct Rows<'a> {
@@ -10,27 +10,36 @@ pub struct Rows<'a> {
     pub highest: &'a mut [f64],
     /// The envelope of minima.
     pub lowest: &'a mut [f64],
+    /// Per node, the speed at the last step; +0 where it is no pump.
+    pub speeds: &'a mut [f64],
+    /// Per node, the pump's inflow at the last step; +0 where it is no pump.
+    pub inflows: &'a mut [f64],
     /// Two values per pipe end to work with; what it holds on entry has no effect.
     pub spare: &'a mut [f64],
 }
 
-/// How many slices are lent, in the order heads, flows, highest, lowest, spare.
-pub const ROWS: usize = 5;
+/// How many slices are lent, in the order heads, flows, highest, lowest, speeds, inflows, spare.
+pub const ROWS: usize = 7;
 
-/// Where the spare stands among them.
-pub const SPARE: usize = 4;
+/// How many of them have an entry per section; they come first.
+pub const OF_SECTIONS: usize = 4;
+
+/// Where the speeds, the inflows and the spare stand among them.
+pub const SPEEDS: usize = 4;
+pub const INFLOWS: usize = 5;
+pub const SPARE: usize = 6;
 
 /// A length for each lent slice, in their order.
 pub type Lengths = [usize; ROWS];
 
-/// What question 20 asks each slice to hold: the section count, and of the spare two values per
-/// pipe end.
-pub const fn needed(sections: usize, pipes: usize) -> Lengths {
-    [sections, sections, sections, sections, 4 * pipes]
+/// What question 20 asks each slice to hold: the section count, of speeds and inflows the node count,
+/// and of the spare two values per pipe end.
+pub const fn needed(sections: usize, nodes: usize, pipes: usize) -> Lengths {
+    [sections, sections, sections, sections, nodes, nodes, 4 * pipes]
 }
 
 /// Lengths that hold every job.
-pub const LONGEST: Lengths = needed(MOST_SECTIONS, MOST_PIPES);
+pub const LONGEST: Lengths = needed(MOST_SECTIONS, MOST_NODES, MOST_PIPES);
 
 impl Rows<'_> {
     /// Question 20: is each lent slice as long as needed?
@@ -40,6 +49,8 @@ impl Rows<'_> {
             self.flows.len(),
             self.highest.len(),
             self.lowest.len(),
+            self.speeds.len(),
+            self.inflows.len(),
             self.spare.len(),
         ];
         lengths.iter().zip(needed).all(|(&length, needed)| length >= needed)
@@ -51,7 +62,7 @@ impl Rows<'_> {
     }
 }
 
-/// Five rows that a caller owns, to lend from and to compare by their bits.
+/// Seven rows that a caller owns, to lend from and to compare by their bits.
 #[derive(Clone, Debug)]
 pub struct RowStore {
     pub rows: [Vec<f64>; ROWS],
@@ -75,8 +86,8 @@ impl RowStore {
     }
 
     pub fn lend(&mut self) -> Rows<'_> {
-        let [heads, flows, highest, lowest, spare] = &mut self.rows;
-        Rows { heads, flows, highest, lowest, spare }
+        let [heads, flows, highest, lowest, speeds, inflows, spare] = &mut self.rows;
+        Rows { heads, flows, highest, lowest, speeds, inflows, spare }
     }
 
     pub fn heads(&self) -> &[f64] {
@@ -93,6 +104,14 @@ impl RowStore {
 
     pub fn lowest(&self) -> &[f64] {
         &self.rows[3]
+    }
+
+    pub fn speeds(&self) -> &[f64] {
+        &self.rows[SPEEDS]
+    }
+
+    pub fn inflows(&self) -> &[f64] {
+        &self.rows[INFLOWS]
     }
 
     /// Every entry's bits, row by row.

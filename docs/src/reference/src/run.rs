@@ -1,8 +1,8 @@
 //! Start and run-on. The new state of a step is worked out apart from the lent slices, so the spare
 //! is only cleared here.
 
-use crate::job::{Job, Pipe};
-use crate::node;
+use crate::job::{Job, Kind, Pipe};
+use crate::node::{self, Solved};
 use crate::reader::{read, MOST_STEPS};
 use crate::refusal::{ask, Refused};
 use crate::rows::Rows;
@@ -13,7 +13,7 @@ use crate::wave::{
 /// Why a step stopped the run. A stop is not a refusal.
 #[derive(Clone, Copy, Debug, PartialEq, Eq)]
 pub enum Cause {
-    /// 40: a head or flow is not finite.
+    /// 40: a head, a flow, a speed or an inflow is not finite.
     NotFinite,
     /// 41: a head is below its floor.
     Parted,
@@ -33,8 +33,8 @@ pub struct Ran {
     pub stop: Option<Stop>,
 }
 
-/// The start: writes the initial heads and flows, and both envelopes as the initial heads.
-/// Answers the section count.
+/// The start: writes the initial heads and flows, both envelopes as the initial heads, and each pump's
+/// first scheduled speed with no inflow. Answers the section count.
 pub fn start(job: &[u8], mut rows: Rows<'_>) -> Result<usize, Refused> {
     let job = read(job)?;
     ask(20, rows.hold(job.needed()))?;
@@ -43,6 +43,11 @@ pub fn start(job: &[u8], mut rows: Rows<'_>) -> Result<usize, Refused> {
         rows.flows[section] = initial.flow;
         rows.highest[section] = initial.head;
         rows.lowest[section] = initial.head;
+    }
+    for (number, node) in job.nodes.iter().enumerate() {
+        let pump = matches!(node.kind, Kind::Pump { .. });
+        rows.speeds[number] = if pump { node.schedule[0] } else { 0.0 };
+        rows.inflows[number] = 0.0;
     }
     rows.clear_spare(job.needed());
     Ok(job.sections())
@@ -61,25 +66,29 @@ pub fn run_on(job: &[u8], done: u64, count: u64, mut rows: Rows<'_>) -> Result<R
 
 /// Question 22.
 fn state_admitted(job: &Job, rows: &Rows<'_>) -> bool {
-    (0..job.sections()).all(|section| {
-        rows.heads[section].is_finite()
-            && rows.flows[section].is_finite()
-            && rows.highest[section].is_finite()
-            && rows.lowest[section].is_finite()
-            && rows.heads[section] >= job.initial[section].floor
-    })
+    let pairs_finite = (0..job.nodes.len())
+        .all(|node| rows.speeds[node].is_finite() && rows.inflows[node].is_finite());
+    pairs_finite
+        && (0..job.sections()).all(|section| {
+            rows.heads[section].is_finite()
+                && rows.flows[section].is_finite()
+                && rows.highest[section].is_finite()
+                && rows.lowest[section].is_finite()
+                && rows.heads[section] >= job.initial[section].floor
+        })
 }
 
 /// Step after step; a stopped step changes no state or envelope.
 fn run(job: &Job, done: u64, count: u64, rows: &mut Rows<'_>) -> Ran {
     for step in done + 1..=done + count {
-        let new = work_out(job, step, rows);
+        let nodes = work_out_nodes(job, step, rows);
+        let sections = work_out_sections(job, &nodes, rows);
         let floors = job.initial.iter().map(|initial| initial.floor);
-        let stop = first_stop(new.iter().copied(), floors);
+        let stop = first_stop(sections.iter().copied(), floors, pair_not_finite(job, &nodes));
         if stop.is_some() {
             return Ran { done: step - 1, stop };
         }
-        take_over(&new, rows);
+        take_over(&sections, &nodes, rows);
     }
     Ran { done: done + count, stop: None }
 }
@@ -101,19 +110,25 @@ fn cm(job: &Job, pipe: &Pipe, place: usize, rows: &Rows<'_>) -> f64 {
     from_below(pipe.s, r, old(rows, pipe.first_section + place + 1))
 }
 
+/// What a step has at a node: its head, and the pair that it leaves there.
+struct NewNode {
+    head: f64,
+    speed: f64,
+    inflow: f64,
+}
+
 /// Works out every section from the old state, in the order of their numbers.
-fn work_out(job: &Job, step: u64, rows: &Rows<'_>) -> Vec<Point> {
-    let node_heads = node_heads(job, step, rows);
+fn work_out_sections(job: &Job, nodes: &[NewNode], rows: &Rows<'_>) -> Vec<Point> {
     let mut new = Vec::new();
     for pipe in &job.pipes {
         let k = start_k(cm(job, pipe, 0, rows));
-        let head = node_heads[pipe.start];
+        let head = nodes[pipe.start].head;
         new.push(Point { head, flow: start_flow(pipe.s, k, head) });
         for place in 1..pipe.reaches {
             new.push(inner(pipe.s, cp(job, pipe, place, rows), cm(job, pipe, place, rows)));
         }
         let k = finish_k(cp(job, pipe, pipe.reaches, rows));
-        let head = node_heads[pipe.finish];
+        let head = nodes[pipe.finish].head;
         new.push(Point { head, flow: finish_flow(pipe.s, k, head) });
     }
     new
@@ -131,19 +146,35 @@ pub fn sums(job: &Job, rows: &Rows<'_>) -> Vec<Sums> {
     sums
 }
 
-/// H of each node at the step.
-fn node_heads(job: &Job, step: u64, rows: &Rows<'_>) -> Vec<f64> {
-    let nodes = job.nodes.iter().zip(sums(job, rows));
-    nodes.map(|(node, sums)| node::head(node.kind, node.value_at(step), sums)).collect()
+/// Works out every node from the old state; the pair of one that is no pump is +0 twice.
+fn work_out_nodes(job: &Job, step: u64, rows: &Rows<'_>) -> Vec<NewNode> {
+    let mut new = Vec::new();
+    for (number, (node, sums)) in job.nodes.iter().zip(sums(job, rows)).enumerate() {
+        let v = job.value_at(number, step, rows.speeds[number], rows.inflows[number]);
+        let Solved { head, inflow } = node::solve(node.kind, v, sums);
+        let pump = matches!(node.kind, Kind::Pump { .. });
+        new.push(NewNode { head, speed: if pump { v } else { 0.0 }, inflow });
+    }
+    new
 }
 
-/// Scans new heads and flows upward; at one section 40 precedes 41.
+/// Where a speed or an inflow that is not finite stops the run: the lowest section of its node, the
+/// least of them where there are several.
+fn pair_not_finite(job: &Job, nodes: &[NewNode]) -> Option<usize> {
+    let bad = |new: &NewNode| !(new.speed.is_finite() && new.inflow.is_finite());
+    let numbers = nodes.iter().enumerate().filter(|(_, new)| bad(new)).map(|(number, _)| number);
+    numbers.map(|number| job.lowest_section(number)).min()
+}
+
+/// Scans new heads and flows upward, with the section at which a pair that is not finite counts; at
+/// one section 40 precedes 41.
 pub(crate) fn first_stop(
     new: impl Iterator<Item = Point>,
     floors: impl Iterator<Item = f64>,
+    pair_not_finite: Option<usize>,
 ) -> Option<Stop> {
     for (section, (Point { head, flow }, floor)) in new.zip(floors).enumerate() {
-        if !(head.is_finite() && flow.is_finite()) {
+        if !(head.is_finite() && flow.is_finite()) || pair_not_finite == Some(section) {
             return Some(Stop { cause: Cause::NotFinite, section });
         }
         if head < floor {
@@ -154,8 +185,12 @@ pub(crate) fn first_stop(
 }
 
 /// A finished step: the new state, and the envelopes where the head is greater or less.
-fn take_over(new: &[Point], rows: &mut Rows<'_>) {
-    for (section, &Point { head, flow }) in new.iter().enumerate() {
+fn take_over(sections: &[Point], nodes: &[NewNode], rows: &mut Rows<'_>) {
+    for (number, new) in nodes.iter().enumerate() {
+        rows.speeds[number] = new.speed;
+        rows.inflows[number] = new.inflow;
+    }
+    for (section, &Point { head, flow }) in sections.iter().enumerate() {
         rows.heads[section] = head;
         rows.flows[section] = flow;
         if head > rows.highest[section] {

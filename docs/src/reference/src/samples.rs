@@ -3,8 +3,10 @@
 use crate::draft::{Draft, DraftNode};
 use crate::lauria;
 use crate::layout::Form;
+use crate::rundown;
 
 mod pipe_figures;
+mod power;
 mod set_main;
 pub mod timed;
 
@@ -22,7 +24,7 @@ fn sample(name: &'static str, about: &'static str, draft: Draft) -> Sample {
 }
 
 pub fn all() -> Vec<Sample> {
-    [of_job_q(), of_mains(), others()].into_iter().flatten().collect()
+    [of_job_q(), of_mains(), of_power(), others()].into_iter().flatten().collect()
 }
 
 /// Job Q in each form.
@@ -42,6 +44,11 @@ fn of_job_q() -> Vec<Sample> {
             "job-q-long-counts",
             "Job Q with six pairs: table 6 counts the schedules, and the bytes of the node records are zero.",
             job_q().in_form(Form::FullTable6),
+        ),
+        sample(
+            "job-q-seven-pairs",
+            "Job Q with seven pairs, tables 6 and 7 empty: bytes count the schedules, and no power fails.",
+            job_q().in_form(Form::SevenEmptyTable6),
         ),
     ]
 }
@@ -82,6 +89,27 @@ fn of_mains() -> Vec<Sample> {
     ]
 }
 
+/// Mains whose power fails.
+fn of_power() -> Vec<Sample> {
+    vec![
+        sample(
+            "power-failure",
+            "A rising main of 2,000 m whose power fails after 1 s: the pump runs down and its non-return valve shuts.",
+            power::power_failure(),
+        ),
+        sample(
+            "second-pump-goes-on",
+            "Two pumps on a rising main: the power of the first fails after 1 s, and the second goes on.",
+            power::second_pump_goes_on(),
+        ),
+        sample(
+            "rundown",
+            "The main of source document 002's example 9.2.4 in 72 reaches, its power off from the first step on (see rundown.md).",
+            rundown::draft(rundown::REACHES[0], rundown::SECONDS),
+        ),
+    ]
+}
+
 /// Runs that are stopped, and one of a thesis.
 fn others() -> Vec<Sample> {
     vec![
@@ -111,13 +139,13 @@ pub fn jobs() -> Vec<(String, Vec<u8>)> {
     for steps in [2, 3, 5] {
         jobs.push((format!("job-q-{steps}-steps"), Draft { steps, ..job_q() }.bytes()));
     }
-    jobs.push(("seventh-pair".to_string(), seventh_pair()));
+    jobs.push(("eighth-pair".to_string(), eighth_pair()));
     jobs
 }
 
-/// Job Q with table 6 and an unknown table 7 of eight bytes, all well laid out.
-fn seventh_pair() -> Vec<u8> {
-    let draft = job_q().in_form(Form::FullTable6);
+/// Job Q with tables 6 and 7 and an unknown table 8 of eight bytes, all well laid out.
+fn eighth_pair() -> Vec<u8> {
+    let draft = job_q().in_form(Form::SevenFullTable6);
     let mut tables = draft.tables();
     tables.push(vec![0; 8]);
     Draft::bytes_of(draft.steps, &tables)

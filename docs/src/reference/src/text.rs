@@ -19,6 +19,10 @@
 //! A job has five pairs, and where a schedule has more than 255 entries six with a table 6 of
 //! counts. A line `counts long` asks for that table all the same, `counts empty` for six pairs and
 //! an empty table 6.
+//!
+//! A line `trip node 0 step 3 G 0.5 t0 1 t1 0` is a record of table 7: from step 3 on the pump at
+//! node 0 runs down by these constants. A job with one has seven pairs; `trips none` asks for seven
+//! pairs and an empty table 7.
 
 use crate::layout::Form;
 
@@ -35,8 +39,9 @@ const KINDS_IN_WORDS: &str = "the kinds are junction, reservoir, \
     valve (an outlet into open air at head b; nothing comes back) and pump (with a non-return valve)";
 const FIGURES: [&str; 3] = ["a", "b", "c"];
 
-/// The word after `counts` for each form that has one.
+/// The word after `counts` for each form of six pairs.
 const FORMS: [(&str, Form); 2] = [("long", Form::FullTable6), ("empty", Form::EmptyTable6)];
+const CONSTANTS: [&str; 3] = ["G", "t0", "t1"];
 
 #[cfg(test)]
 mod tests {
@@ -96,6 +101,19 @@ mod tests {
             ("counts short", "line 1: `short` is no way to count; it is `long` or `empty`"),
             ("counts long 6", "line 1: `6` is one word too many"),
             ("counts long\ncounts long", "line 2: line 1 has said how schedules are counted"),
+            ("trip node 0 step 3 G 1 t0 1", "line 1: `t1` is missing"),
+            ("trip 0 3 1 1 1", "line 1: `node` was looked for where `0` stands"),
+            ("trip node 65536 step 3 G 1 t0 1 t1 0", "line 1: `65536` does not fit as node"),
+            ("trip node 0 step -1 G 1 t0 1 t1 0", "line 1: `-1` does not fit as step"),
+            (
+                "trips some",
+                "line 1: `some` does not fit as trips; it is `none`, or a line `trip` for each",
+            ),
+            (
+                "trips none\ntrip node 0 step 3 G 1 t0 1 t1 0",
+                "line 2: line 1 has said that there are no trips",
+            ),
+            ("trip node 0 step 3 G 1 t0 1 t1 0\ntrips none", "line 2: a line before has a trip"),
         ] {
             assert_eq!(from_text(text), Err(words.to_string()));
         }
@@ -123,6 +141,10 @@ mod tests {
             (255, Form::FullTable6, Some("counts long")),
             (256, Form::FullTable6, None),
             (4000, Form::FullTable6, None),
+            (1, Form::SevenEmptyTable6, None),
+            (255, Form::SevenEmptyTable6, None),
+            (1, Form::SevenFullTable6, Some("counts long")),
+            (256, Form::SevenFullTable6, None),
         ] {
             let draft = job_q_of(entries, form);
             let text = to_text("", &draft);
@@ -130,6 +152,30 @@ mod tests {
             let back = from_text(&text).unwrap();
             assert_eq!((back.form, back.bytes()), (form, draft.bytes()));
             assert_eq!(Draft::read(&draft.bytes()).unwrap().bytes(), draft.bytes());
+        }
+    }
+
+    /// A trip asks for seven pairs by itself, `trips none` where there is none; trips keep their order.
+    #[test]
+    fn trips_come_back_in_their_order() {
+        let mut draft = Draft { steps: 2, ..Draft::default() };
+        draft.node(crate::draft::DraftNode::pump(10.0, 0.0, 0.0, &[1.0]));
+        draft.node(crate::draft::DraftNode::pump(10.0, 0.0, 0.0, &[1.0]));
+        draft.pipe(0, 1, 1, 1.0, 0.0);
+        draft.section(10.0, 0.0, 0.0);
+        draft.section(10.0, 0.0, 0.0);
+        let empty = draft.in_form(Form::SevenEmptyTable6);
+        let text = to_text("", &empty);
+        assert!(text.contains("\ntrips none\n"));
+        assert_eq!(from_text(&text).unwrap(), empty);
+        draft.trip(1, 0, [0.5, -0.0, 1e300]);
+        draft.trip(0, u32::MAX, [0.0, 1.0, 0.25]);
+        for form in Form::OF_SEVEN {
+            let draft = draft.in_form(form);
+            let text = to_text("", &draft);
+            assert!(text.contains("\ntrip node 1 step 0 G 0.5 t0 -0 t1 1e300\n"), "{text}");
+            let back = from_text(&text).unwrap();
+            assert!(back == draft && back.bytes() == draft.bytes() && !text.contains("none"));
         }
     }
 

@@ -2,10 +2,12 @@
 
 use reference::baseline;
 use reference::draft::{Draft, DraftNode};
-use reference::generate::{cut_up, damaged, damaged_anywhere, odd, outlets, sound, Random};
+use reference::generate::{
+    any_pair_number, cut_up, damaged, damaged_anywhere, odd, outlets, sound, trips, Random,
+};
 use reference::reader::QUESTIONS;
 use reference::refusal::Refused;
-use reference::rows::{RowStore, Rows, LONGEST, ROWS, SPARE};
+use reference::rows::{RowStore, Rows, INFLOWS, LONGEST, ROWS, SPARE, SPEEDS};
 use reference::run::{self, start, Cause, Ran, Stop};
 
 type RunOn = fn(&[u8], u64, u64, Rows<'_>) -> Result<Ran, Refused>;
@@ -72,6 +74,18 @@ fn on_outlets() {
     let mut stopped = 0;
     for _ in 0..3000 {
         let draft = outlets(&mut random);
+        stopped += run_cut_up(&mut random, &draft);
+    }
+    assert!(stopped > 100, "{stopped} calls stopped");
+}
+
+/// Most stops are for a speed that is no number.
+#[test]
+fn on_power_failures() {
+    let mut random = Random::new(16);
+    let mut stopped = 0;
+    for _ in 0..4000 {
+        let draft = trips(&mut random);
         stopped += run_cut_up(&mut random, &draft);
     }
     assert!(stopped > 100, "{stopped} calls stopped");
@@ -164,7 +178,8 @@ fn on_rows_of_any_numbers() {
     let mut random = Random::new(13);
     let numbers = [0.0, -0.0, 1.0, -1.0, 30.0, 1e-310, 1e10];
     for _ in 0..2000 {
-        let draft = if random.once_in(2) { sound(&mut random) } else { odd(&mut random) };
+        let make = random.pick(&[sound as fn(&mut Random) -> Draft, odd, trips, trips]);
+        let draft = make(&mut random);
         let job = draft.bytes();
         let mut rows = RowStore::marked(draft.needed());
         start(&job, rows.lend()).unwrap();
@@ -175,6 +190,10 @@ fn on_rows_of_any_numbers() {
                     rows.rows[row][section] = number;
                 }
             }
+        }
+        for row in [SPEEDS, INFLOWS] {
+            let used = draft.nodes.len();
+            rows.rows[row][..used].fill_with(|| any_pair_number(&mut random));
         }
         let (done, count) = (random.below(300) as u64, random.below(10) as u64);
         all_alike(&job, done, count, &mut rows).unwrap();
@@ -196,6 +215,10 @@ fn on_calls_to_be_refused() {
         short.rows[short_row].truncate(draft.needed()[short_row] - 1);
         assert_eq!(all_alike(&job, 0, 1, &mut short), Err(Refused(20)));
         rows.rows[row][section] = random.pick(&[f64::NAN, f64::INFINITY, f64::NEG_INFINITY]);
+        assert_eq!(all_alike(&job, 0, 1, &mut rows), Err(Refused(22)));
+        start(&job, rows.lend()).unwrap();
+        let (pair, node) = (random.pick(&[SPEEDS, INFLOWS]), random.below(draft.nodes.len()));
+        rows.rows[pair][node] = random.pick(&[f64::NAN, f64::INFINITY, f64::NEG_INFINITY]);
         assert_eq!(all_alike(&job, 0, 1, &mut rows), Err(Refused(22)));
         start(&job, rows.lend()).unwrap();
         rows.rows[0][section] = draft.sections[section][2] - 1.0;

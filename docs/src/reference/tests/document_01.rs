@@ -131,9 +131,9 @@ fn a_t_beyond_every_f64_stops_even_a_reservoir() {
     assert_eq!(ran.stop, Some(Stop { cause: Cause::NotFinite, section: 0 }));
 }
 
-/// Job Q has 3 sections and 1 pipe: 4 entries of its spare are in use. Here every slice has some
+/// Job Q has 3 sections, 2 nodes and 1 pipe: 4 entries of its spare are in use. Here every slice has some
 /// entries more.
-const LONGER_THAN_Q: [usize; ROWS] = [7, 5, 6, 4, 9];
+const LONGER_THAN_Q: [usize; ROWS] = [7, 5, 6, 4, 3, 8, 9];
 
 /// The bits of the spare after a call on job Q, which leaves all entries past those in use marked.
 fn spare_in_use(store: &RowStore) -> Vec<u64> {
@@ -177,7 +177,7 @@ fn a_stop_clears_the_spare() {
 fn a_spare_of_three_is_refused_and_one_of_four_is_enough() {
     let bytes = job_q().bytes();
     for (length, answer) in [(0, Err(Refused(20))), (3, Err(Refused(20))), (4, Ok(3)), (5, Ok(3))] {
-        let mut store = RowStore::marked([3, 3, 3, 3, length]);
+        let mut store = RowStore::marked([3, 3, 3, 3, 2, 2, length]);
         assert_eq!(start(&bytes, store.lend()), answer, "a spare of {length}");
         let ran = answer.map(|_| Ran { done: 2, stop: None });
         assert_eq!(run_on(&bytes, 0, 2, store.lend()), ran, "a spare of {length}");

@@ -1,4 +1,4 @@
-//! Request 3 of document 02: jobs of five and of six pairs, and where their refusals begin.
+//! Request 3 of document 02: jobs of five and of more pairs, and where their refusals begin.
 
 use reference::draft::{Draft, DraftNode};
 use reference::layout::Form;
@@ -26,9 +26,13 @@ fn refusal(bytes: &[u8]) -> u8 {
 #[test]
 fn job_q_says_the_same_in_each_form() {
     let expected = read(&job_q().bytes()).unwrap();
-    for (form, pairs, size) in
-        [(Form::FivePairs, 5, 214), (Form::EmptyTable6, 6, 222), (Form::FullTable6, 6, 226)]
-    {
+    for (form, pairs, size) in [
+        (Form::FivePairs, 5, 214),
+        (Form::EmptyTable6, 6, 222),
+        (Form::FullTable6, 6, 226),
+        (Form::SevenEmptyTable6, 7, 230),
+        (Form::SevenFullTable6, 7, 234),
+    ] {
         let bytes = job_q().in_form(form).bytes();
         assert_eq!((bytes[0], bytes.len()), (pairs, size), "{form:?}");
         assert_eq!(read(&bytes).unwrap(), expected, "{form:?}");
@@ -55,9 +59,9 @@ fn a_schedule_of_300_entries_is_read_to_its_end() {
 }
 
 #[test]
-fn question_2_admits_five_and_six_pairs_inside_the_file() {
+fn question_2_admits_five_to_seven_pairs_inside_the_file() {
     let mut bytes = job_q().bytes();
-    for count in [0_u16, 1, 2, 3, 4, 7, 8, 5 << 8, 6 << 8, u16::MAX] {
+    for count in [0_u16, 1, 2, 3, 4, 8, 9, 5 << 8, 6 << 8, 7 << 8, u16::MAX] {
         bytes[..2].copy_from_slice(&count.to_le_bytes());
         assert_eq!(refusal(&bytes), 2, "{count} pairs");
     }
@@ -72,9 +76,18 @@ fn question_2_admits_five_and_six_pairs_inside_the_file() {
     let empty = vec![Vec::new(); 6];
     assert_eq!((number(&empty), Draft::bytes_of(1, &empty).len()), (5, 54));
     assert_eq!((number(&empty[..5]), Draft::bytes_of(1, &empty[..5]).len()), (5, 46));
-    let mut seven = long_tables();
-    seven.push(Vec::new());
-    assert_eq!(number(&seven), 2);
+    // Seven end at byte 62.
+    let mut seven = [0; 62];
+    seven[0] = 7;
+    for length in 46..62 {
+        assert_eq!(refusal(&seven[..length]), 2, "seven pairs in {length} bytes");
+    }
+    assert_eq!((refusal(&seven), refusal(&seven[..45])), (3, 1));
+    let mut tables = long_tables();
+    tables.push(Vec::new());
+    assert_eq!(number(&tables), 0);
+    tables.push(Vec::new());
+    assert_eq!(number(&tables), 2);
 }
 
 /// Each form with the first table where the other has it; the rest adjoins and ends with the file.
@@ -112,7 +125,7 @@ fn question_10_asks_the_byte_only_where_table_6_is_empty() {
             }
             let mut tables = job_q().in_form(form).tables();
             tables[1][at] = 0;
-            assert_eq!(number(&tables), if form == Form::FullTable6 { 0 } else { 10 }, "{form:?}");
+            assert_eq!(number(&tables), if form.counts_in_table_6() { 0 } else { 10 }, "{form:?}");
         }
     }
 }
@@ -183,7 +196,7 @@ fn question_15_goes_by_the_u16_counts() {
 
 #[test]
 fn the_longest_jobs() {
-    let expected = [(32_762, 4073), (32_766, 4065), (32_766, 3705), (32_768, 2008)];
+    let expected = [(32_762, 4073), (32_766, 4065), (32_766, 3705), (32_768, 2008), (32_768, 3678)];
     for (draft, (size, entries)) in longest_jobs().iter().zip(expected) {
         let job = read(&draft.bytes()).unwrap();
         let counted: usize = job.nodes.iter().map(|node| node.schedule.len()).sum();

@@ -64,18 +64,20 @@ fn the_stored_jobs_and_listings_are_those_of_the_program() {
 #[test]
 fn job_q_lists_the_same_in_each_form() {
     let listing = listing_of(&bytes_of("job-q"));
-    for (sample, size) in [("job-q-six-pairs", 222), ("job-q-long-counts", 226)] {
+    for (sample, pairs, size) in
+        [("job-q-six-pairs", 6, 222), ("job-q-long-counts", 6, 226), ("job-q-seven-pairs", 7, 230)]
+    {
         let job = bytes_of(sample);
-        assert_eq!((job[0], job.len()), (6, size), "{sample}");
+        assert_eq!((job[0], job.len()), (pairs, size), "{sample}");
         assert_eq!(listing_of(&job), listing, "{sample}");
     }
 }
 
 #[test]
-fn a_seventh_table_is_refused() {
+fn an_eighth_table_is_refused() {
     let jobs = samples::jobs();
-    let (_, job) = jobs.iter().find(|(name, _)| name == "seventh-pair").unwrap();
-    assert_eq!((job[0], listing_of(job)), (7, b"refused 2\n".to_vec()));
+    let (_, job) = jobs.iter().find(|(name, _)| name == "eighth-pair").unwrap();
+    assert_eq!((job[0], listing_of(job)), (8, b"refused 2\n".to_vec()));
 }
 
 /// The highest head at a sample's last section, the gate.
@@ -106,6 +108,10 @@ fn samples_end_as_they_say() {
         ("branches-and-loop", "done 400"),
         ("ditch-outlet", "done 30"),
         ("set-main", "done 1000"),
+        ("job-q-seven-pairs", "done 1"),
+        ("power-failure", "done 600"),
+        ("second-pump-goes-on", "done 600"),
+        ("rundown", "done 289"),
         ("stops-as-40", "notfinite 8 0"),
         ("stops-as-41", "parted 4 3"),
         ("lauria", "done 113"),
@@ -117,7 +123,9 @@ fn samples_end_as_they_say() {
 
 #[test]
 fn bytes_go_to_text_and_back() {
-    let forms = ["job-q-six-pairs", "job-q-long-counts", "slow-gate"];
+    let six = ["job-q-six-pairs", "job-q-long-counts", "slow-gate"];
+    let seven = ["job-q-seven-pairs", "power-failure", "second-pump-goes-on"];
+    let forms = six.into_iter().chain(seven);
     for sample in ["job-q", "branches-and-loop", "lauria"].into_iter().chain(forms) {
         let job = bytes_of(sample);
         let text = run(env!("CARGO_BIN_EXE_job-to-text"), &[], &job).stdout;

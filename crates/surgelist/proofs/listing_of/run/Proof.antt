@@ -9,16 +9,20 @@ use Rattle.surgelist.proofs.listing_of.run.Tie as tie
 
 -- the function's entry, and where the start and the run-on have been done
 abbrev entry : tie.After-start → tie.Start
-entry c = let lent : tie.After-slice-known5 = c .before .before .before .before .before .before in lent .before .before .before .before .before .before
+entry c = let lent : tie.After-slice-known7 = c .before .before .before .before .before .before .before .before in lent .before .before .before .before .before .before .before .before
 
 abbrev started : tie.After-run-on → tie.After-start
 started c =
-    let lent : tie.After-slice-known10 = c .before .before .before .before .before .before in
-    let highest : tie.After-highest = lent .before .before .before .before .before in
+    let lent : tie.After-slice-known14 = c .before .before .before .before .before .before .before .before in
+    let speeds : tie.After-speeds = lent .before .before .before .before .before in
+    let highest : tie.After-highest = speeds .before .before .before .before in
     highest .before .before .before .before .before
 
-abbrev ran : tie.After-slice-known15 → tie.After-run-on
-ran c = let highest : tie.After-highest2 = c .before .before .before .before .before in highest .before .before .before .before .before
+abbrev ran : tie.After-slice-known21 → tie.After-run-on
+ran c =
+    let speeds : tie.After-speeds2 = c .before .before .before .before .before in
+    let highest : tie.After-highest2 = speeds .before .before .before .before in
+    highest .before .before .before .before .before
 
 long-started : (c : tie.After-start) → Long (rowsLeft (c .start .last .1))
 long-started c = let l = entry c .pre .1 in let k = c .start .kept .1 in omega arith
@@ -39,6 +43,8 @@ run-spec =
     (tie.spec
     (λ c κs. search needs)
     (λ c κs. search needs)
+    (λ c. search needs)
+    (λ c. search needs)
     (λ c. search needs)
     (λ c. search needs)
     (λ c. search needs)

@@ -16,16 +16,19 @@ use Rattle.surgelist.proofs.listing_of.write_listing_of.Tie as tie
 
 -- the function's entry, where the job has been read and is refused or accepted, and where the run has been done
 abbrev entry : tie.After-read → tie.Start
-entry c = let lent : tie.After-slice-known3 = c .before .before .before .before in lent .before .before .before .before
+entry c = let lent : tie.After-slice-known5 = c .before .before .before .before in lent .before .before .before .before .before .before
 
 abbrev refused : tie.After-write-listing → tie.After-read2
 refused c = let told : tie.After-known-told = c .before .before .before .before .before .before in told .before
 
-abbrev accepted : tie.After-run-arg5 → tie.After-read3
-accepted c = c .before .before .before .before .before .before
+abbrev accepted : tie.After-run-arg7 → tie.After-read3
+accepted c = c .before .before .before .before .before .before .before .before
 
 abbrev ran : tie.After-numbers-of → tie.After-run
-ran c = let highest : tie.After-highest = c .before .before .before .before .before .before in highest .before .before .before .before .before
+ran c =
+    let speeds : tie.After-speeds = c .before .before .before .before .before .before in
+    let highest : tie.After-highest = speeds .before .before .before .before in
+    highest .before .before .before .before .before
 
 -- what the answer of `read` tells of an accepted job
 held : (c : tie.After-read3)
@@ -76,6 +79,8 @@ write-listing-of-spec =
     (λ c. search needs)
     (λ c. search needs)
     returns-refused
+    (λ c. search needs)
+    (λ c. search needs)
     (λ c. search needs)
     (λ c. search needs)
     (λ c. search needs)

@@ -7,18 +7,19 @@ use compare::both::{differ, ran, same_rows};
 use compare::ours::{self, Answer};
 use reference::baseline::{in_place, own_rows};
 use reference::draft::Draft;
-use reference::rows::{Lengths, RowStore, LONGEST, SPARE};
+use reference::rows::{Lengths, RowStore, INFLOWS, LONGEST, SPARE, SPEEDS};
 use reference::run;
 use reference::samples::timed::{
-    many_pipes, one_long_pipe, short_main, uneven_pipe, with_longest_schedules, with_one_entry,
-    with_valve_shut,
+    many_pipes, one_long_pipe, short_main, tripped_pumps, uneven_pipe, with_longest_schedules,
+    with_one_entry, with_valve_shut, without_trips,
 };
 use std::time::Instant;
 
 /// The rows have some entries more than are in use: 512 f64 are 4,096 bytes, and rows that far apart
 /// would share places in the cache.
 const LONGER: usize = LONGEST[0] + 48;
-const LENGTHS: Lengths = [LONGER, LONGER, LONGER, LONGER, LONGEST[SPARE]];
+const LENGTHS: Lengths =
+    [LONGER, LONGER, LONGER, LONGER, LONGEST[SPEEDS], LONGEST[INFLOWS], LONGEST[SPARE]];
 
 #[derive(Clone, Copy)]
 enum Which {
@@ -184,6 +185,14 @@ fn plans() -> Vec<Plan> {
             one,
             41,
         ),
+    ]);
+    // Every pump runs down from the first step on, and delivers all the time.
+    let (tripped, one_reach) = (tripped_pumps(15), tripped_pumps(1));
+    plans.extend([
+        Plan::new("16 tripped pumps, 16 pipes of 15 reaches, 10,000 steps", &tripped, one, 41),
+        Plan::new("the same, none tripped", &without_trips(&tripped), one, 41),
+        Plan::new("16 tripped pumps, 16 pipes of one reach, 10,000 steps", &one_reach, one, 41),
+        Plan::new("the same, none tripped", &without_trips(&one_reach), one, 41),
     ]);
     plans
 }

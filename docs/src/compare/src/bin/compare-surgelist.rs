@@ -3,7 +3,7 @@
 
 use compare::both::differ;
 use compare::tally::Tally;
-use reference::generate::{damaged, damaged_anywhere, odd, sound, Random};
+use reference::generate::{damaged, damaged_anywhere, odd, sound, trips, Random};
 use reference::listing::listing;
 use reference::reader::QUESTIONS;
 use reference::samples::{self, timed::longest_jobs};
@@ -40,6 +40,7 @@ fn jobs() -> Vec<(&'static str, Vec<u8>)> {
     for _ in 0..150 {
         jobs.push(("sound jobs", sound(&mut random).bytes()));
         jobs.push(("odd jobs", odd(&mut random).bytes()));
+        jobs.push(("jobs whose power fails", trips(&mut random).bytes()));
         jobs.push(("jobs damaged anywhere", damaged_anywhere(&mut random)));
     }
     jobs

@@ -3,8 +3,8 @@
 use crate::both::{self, Lent};
 use crate::tally::Tally;
 use reference::draft::Draft;
-use reference::generate::{odd, sound, Random};
-use reference::rows::ROWS;
+use reference::generate::{any_pair_number, odd, sound, trips, Random};
+use reference::rows::{INFLOWS, OF_SECTIONS, ROWS, SPEEDS};
 
 /// NaNs quiet and signalling, of either sign and several payloads, and the infinities.
 const NOT_FINITE: [u64; 8] = [
@@ -36,8 +36,12 @@ const LIMITS: [(u64, u64, bool); 12] = [
 
 pub fn calls(tally: &mut Tally) {
     let mut random = Random::new(103);
-    for place in 0..400 {
-        let draft = if place % 2 == 0 { sound(&mut random) } else { odd(&mut random) };
+    for place in 0..600 {
+        let draft = match place % 3 {
+            0 => sound(&mut random),
+            1 => odd(&mut random),
+            _ => trips(&mut random),
+        };
         let job = draft.bytes();
         let mut lent = Lent::marked(draft.needed());
         both::start(tally, &job, &mut lent);
@@ -84,14 +88,15 @@ fn limits(tally: &mut Tally, job: &[u8], lent: &Lent) {
     }
 }
 
-/// Question 22: a number not finite in each of the four rows; a head just below its floor, and on it.
+/// Question 22: a number not finite in each row but the spare; a head just below its floor, and on it.
 fn states(tally: &mut Tally, random: &mut Random, draft: &Draft, lent: &Lent) {
     let job = draft.bytes();
-    for row in 0..4 {
+    for row in (0..OF_SECTIONS).chain([SPEEDS, INFLOWS]) {
         for bits in NOT_FINITE {
-            let section = random.below(draft.section_count());
+            // Any section or, of speeds and inflows, any node.
+            let entry = random.below(draft.needed()[row]);
             let mut rows = lent.clone();
-            rows.store.rows[row][section] = f64::from_bits(bits);
+            rows.store.rows[row][entry] = f64::from_bits(bits);
             expect(both::run_on(tally, &job, 0, 2, &mut rows).number, 22);
             tally.count("run-ons refused for a number not finite", 1);
         }
@@ -122,23 +127,36 @@ fn next_below(x: f64) -> f64 {
     f64::from_bits(if x > 0.0 { bits - 1 } else { bits + 1 })
 }
 
-/// The rows lent need not be such as a call left: any envelopes, any heads not below their floors.
+/// The rows lent need not be such as a call left: any envelopes, speeds and inflows, any heads not below their floors.
+/// Half of the calls take what the start left but for speeds and inflows, so that more of them run on.
 fn any_numbers(tally: &mut Tally, random: &mut Random, draft: &Draft, lent: &Lent) {
     let job = draft.bytes();
     let numbers = [0.0, -0.0, 1.0, -1.0, 30.0, 1e-310, -1e-310, 1e10, -1e300, f64::MAX];
-    for _ in 0..4 {
+    for way in 0..8 {
         let mut rows = lent.clone();
         for (section, [_, _, floor]) in draft.sections.iter().enumerate() {
-            for row in 0..4 {
+            for row in 0..if way % 2 == 0 { OF_SECTIONS } else { 0 } {
                 let number = random.pick(&numbers);
                 if row > 0 || number >= *floor {
                     rows.store.rows[row][section] = number;
                 }
             }
         }
+        for row in [SPEEDS, INFLOWS] {
+            let used = draft.nodes.len();
+            rows.store.rows[row][..used].fill_with(|| any_pair_number(random));
+        }
+        if !draft.trips.is_empty() && random.once_in(2) {
+            // A speed so great, and an inflow so far below zero, that a rundown may rise to plus infinity.
+            let pump = usize::from(random.pick(&draft.trips).node);
+            rows.store.rows[SPEEDS][pump] = random.pick(&[1e160, 1e200]);
+            rows.store.rows[INFLOWS][pump] = random.pick(&[-1e160, -f64::MAX]);
+        }
         rows.fill_spare(random, draft.needed());
         let longest = draft.longest_schedule();
-        let (done, count) = (random.below(longest.max(300)) as u64, random.below(10) as u64);
+        // Early and late, about the trip steps and past the schedules.
+        let last = random.pick(&[4, 12, longest.max(300)]);
+        let (done, count) = (random.below(last) as u64, random.below(10) as u64);
         let number = both::run_on(tally, &job, done, count, &mut rows).number;
         assert_ne!(number, 22, "any numbers not below the floors are let through");
         tally.count("run-ons from rows that no call left", 1);

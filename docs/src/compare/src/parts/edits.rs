@@ -5,38 +5,75 @@ use crate::distance;
 use crate::ours::{self, Answer};
 use crate::tally::Tally;
 use reference::draft::{Draft, DraftNode};
-use reference::generate::{odd, sound, Random};
-use reference::layout::Form;
-use reference::rows::Lengths;
+use reference::generate::{odd, sound, trips, Random};
+use reference::rows::{Lengths, INFLOWS, OF_SECTIONS, SPEEDS};
 
 const SHARP: &str = "sections at k + d steps that differ: the bound is sharp";
 const SHARP_FORMS: &str = "the same of a job of five pairs beside one with a full table 6";
 const SHARP_LATE: &str = "the same where k is past 255";
 const LATE: &str = "pairs of jobs edited after entry 255 and compared past step k";
 
+const PAIRS_ALIKE: &str = "speeds and inflows of edited jobs found alike as promised, at pumps";
+const PAIRS_ALIKE_TRIPPED: &str = "the same at pumps that run down";
+const SHARP_INFLOW: &str = "inflows at k + d steps that differ: the bound is sharp for them";
+const SHARP_INFLOW_FAR: &str = "the same at another pump than the edited node";
+const TRIPPED_LATER: &str = "speeds of tripped pumps that differ for the edit, after k + d steps";
+const START_DIFFERS: &str = "starts whose speed at the edited pump follows the edited first entry";
+const EDITED_TRIPPED: &str = "pairs of jobs edited at a pump with a trip";
+const EDITED_BESIDE: &str = "pairs of jobs edited at another node than one with a trip";
+
 /// Pairs by the places of their forms in `Form::ALL`, the lesser first.
-const FORMS: [[&str; 3]; 3] = [
+const FORMS: [[&str; 5]; 5] = [
     [
         "pairs of edited jobs: five pairs both",
-        "pairs of edited jobs: five pairs, table 6 empty",
-        "pairs of edited jobs: five pairs, table 6 full",
+        "pairs of edited jobs: five pairs; six, table 6 empty",
+        "pairs of edited jobs: five pairs; six, table 6 full",
+        "pairs of edited jobs: five pairs; seven, table 6 empty",
+        "pairs of edited jobs: five pairs; seven, table 6 full",
     ],
-    ["", "pairs of edited jobs: table 6 empty both", "pairs of edited jobs: table 6 empty, full"],
-    ["", "", "pairs of edited jobs: table 6 full both"],
+    [
+        "",
+        "pairs of edited jobs: six, table 6 empty both",
+        "pairs of edited jobs: six, table 6 empty; six, table 6 full",
+        "pairs of edited jobs: six, table 6 empty; seven, table 6 empty",
+        "pairs of edited jobs: six, table 6 empty; seven, table 6 full",
+    ],
+    [
+        "",
+        "",
+        "pairs of edited jobs: six, table 6 full both",
+        "pairs of edited jobs: six, table 6 full; seven, table 6 empty",
+        "pairs of edited jobs: six, table 6 full; seven, table 6 full",
+    ],
+    [
+        "",
+        "",
+        "",
+        "pairs of edited jobs: seven, table 6 empty both",
+        "pairs of edited jobs: seven, table 6 empty; seven, table 6 full",
+    ],
+    ["", "", "", "", "pairs of edited jobs: seven, table 6 full both"],
 ];
 
 /// What must be reached, and how often at least.
 pub fn all() -> Vec<(&'static str, u64)> {
     let pairs = FORMS.concat().into_iter().filter(|case| !case.is_empty());
     let mut counts: Vec<_> = pairs.map(|case| (case, 100)).collect();
+    let of_pumps = [PAIRS_ALIKE, PAIRS_ALIKE_TRIPPED, SHARP_INFLOW, SHARP_INFLOW_FAR];
+    let of_trips = [TRIPPED_LATER, START_DIFFERS, EDITED_TRIPPED, EDITED_BESIDE];
+    counts.extend(of_pumps.into_iter().chain(of_trips).map(|case| (case, 100)));
     counts.extend([(SHARP, 1), (SHARP_FORMS, 100), (LATE, 100), (SHARP_LATE, 100)]);
     counts
 }
 
 pub fn edits(tally: &mut Tally) {
     let mut random = Random::new(105);
-    for place in 0..6000 {
-        let draft = if place % 5 == 0 { odd(&mut random) } else { sound(&mut random) };
+    for place in 0..9000 {
+        let draft = match place % 5 {
+            0 => odd(&mut random),
+            1 => trips(&mut random),
+            _ => sound(&mut random),
+        };
         let node = edited_node(&mut random, &draft);
         let mut edited = draft.clone();
         edit_schedule(&mut random, &mut edited.nodes[node]);
@@ -50,21 +87,19 @@ pub fn edits(tally: &mut Tally) {
     }
 }
 
-/// Any node; more often one whose schedule has more than 255 entries.
+/// Any node; more often one whose schedule has more than 255 entries, or a pump with a trip.
 fn edited_node(random: &mut Random, draft: &Draft) -> usize {
     let long = draft.nodes.iter().position(|node| node.schedule.len() > 255);
-    match long {
-        Some(node) if !random.once_in(4) => node,
+    match (long, draft.trips.first()) {
+        (Some(node), _) if !random.once_in(4) => node,
+        (_, Some(trip)) if random.once_in(3) => trip.node.into(),
         _ => random.below(draft.nodes.len()),
     }
 }
 
 /// The same job in any of the forms that can count its schedules.
 fn in_any_form(random: &mut Random, draft: &Draft) -> Draft {
-    let longest = draft.longest_schedule();
-    let forms: Vec<_> =
-        Form::ALL.into_iter().filter(|form| longest <= form.most_entries()).collect();
-    draft.in_form(random.pick(&forms))
+    draft.in_form(random.pick(&draft.forms()))
 }
 
 /// Another value in one entry, more entries, or fewer.
@@ -97,6 +132,12 @@ struct Pair {
     forms: [usize; 2],
     needed: Lengths,
     far: Vec<Option<u64>>,
+    /// How far each node is.
+    far_nodes: Vec<Option<u64>>,
+    /// The edited node.
+    node: usize,
+    /// The numbers of the pumps, each with its trip step where it has one.
+    pumps: Vec<(usize, Option<u32>)>,
     k: u64,
 }
 
@@ -104,11 +145,19 @@ impl Pair {
     fn new(draft: &Draft, edited: &Draft, node: u8, k: u64) -> Pair {
         let mut forms = [draft.form, edited.form].map(|form| form.place());
         forms.sort();
+        let far = distance::from_node(draft, node);
+        let trip_step = |node: usize| {
+            draft.trips.iter().find(|trip| usize::from(trip.node) == node).map(|trip| trip.step)
+        };
+        let pumps = (0..draft.nodes.len()).filter(|&node| draft.nodes[node].kind == 3);
         Pair {
             jobs: [draft.bytes(), edited.bytes()],
             forms,
             needed: draft.needed(),
-            far: distance::from_node(draft, node),
+            far_nodes: distance::of_nodes(draft, &far),
+            far,
+            node: node.into(),
+            pumps: pumps.map(|node| (node, trip_step(node))).collect(),
             k,
         }
     }
@@ -124,6 +173,9 @@ impl Pair {
             }
         }
         tally.count(FORMS[self.forms[0]][self.forms[1]], 1);
+        self.count_trips(tally);
+        self.same_nodes(tally, 0, &runs);
+        self.same_sections(tally, 0, &runs);
         let mut done = [0; 2];
         // Where k is late, one call for most of the steps before it.
         let mut before_k = self.k.saturating_sub(20);
@@ -145,6 +197,7 @@ impl Pair {
                 return;
             }
             self.same_sections(tally, done[0], &runs);
+            self.same_nodes(tally, done[0], &runs);
             if answers.iter().any(|answer| answer.number != 0) {
                 return;
             }
@@ -164,7 +217,7 @@ impl Pair {
 
     /// Alike at d reaches while m is at most k + d - 1, and at every m where no path leads.
     fn same_sections(&self, tally: &mut Tally, m: u64, runs: &[Lent; 2]) {
-        let bits = |which: usize, section: usize| -> [u64; 4] {
+        let bits = |which: usize, section: usize| -> [u64; OF_SECTIONS] {
             std::array::from_fn(|row| runs[which].store.rows[row][section].to_bits())
         };
         for (section, far) in self.far.iter().enumerate() {
@@ -183,6 +236,48 @@ impl Pair {
                     self.sharp(tally);
                 }
             }
+        }
+    }
+
+    /// Speeds and inflows at a node d reaches away alike while m is at most k + d - 1, but for the speed that the start
+    /// writes at the edited node, where k is 1. The bound is not said to be sharp for speeds.
+    fn same_nodes(&self, tally: &mut Tally, m: u64, runs: &[Lent; 2]) {
+        let alike = |row: usize, node: usize| {
+            let [a, b] = runs.each_ref().map(|lent| lent.store.rows[row][node].to_bits());
+            a == b
+        };
+        for (node, far) in self.far_nodes.iter().enumerate() {
+            let promised = far.is_none_or(|d| m < self.k + d);
+            let excepted = node == self.node && self.k == 1 && m == 0;
+            let (speeds, inflows) = (alike(SPEEDS, node), alike(INFLOWS, node));
+            if promised && !(inflows && (speeds || excepted)) {
+                let found = format!("node {node} at {far:?}, m is {m}, k is {}", self.k);
+                differ("demand 3, speeds and inflows", &self.jobs[0], &found);
+            }
+            let Some(&(_, trip)) = self.pumps.iter().find(|&&(pump, _)| pump == node) else {
+                continue;
+            };
+            let tripped = trip.is_some_and(|step| m >= u64::from(step).max(1));
+            let at_bound = *far == m.checked_sub(self.k);
+            for (case, holds) in [
+                (START_DIFFERS, excepted && !speeds),
+                (PAIRS_ALIKE, promised && !excepted),
+                (PAIRS_ALIKE_TRIPPED, promised && !excepted && tripped),
+                (SHARP_INFLOW, at_bound && !inflows),
+                (SHARP_INFLOW_FAR, at_bound && !inflows && node != self.node),
+                (TRIPPED_LATER, tripped && !speeds && far.is_some_and(|d| m > self.k + d)),
+            ] {
+                tally.count(case, u64::from(holds));
+            }
+        }
+    }
+
+    fn count_trips(&self, tally: &mut Tally) {
+        let tripped = |(node, trip): &&(usize, Option<u32>)| trip.is_some() && *node == self.node;
+        if self.pumps.iter().any(|pump| tripped(&pump)) {
+            tally.count(EDITED_TRIPPED, 1);
+        } else if self.pumps.iter().any(|(_, trip)| trip.is_some()) {
+            tally.count(EDITED_BESIDE, 1);
         }
     }
 

@@ -4,7 +4,7 @@ use crate::both::{self, Lent};
 use crate::tally::Tally;
 use crate::ways;
 use reference::draft::Draft;
-use reference::generate::{cut_up, damaged, damaged_anywhere, odd, outlets, sound, Random};
+use reference::generate::{cut_up, damaged, damaged_anywhere, odd, outlets, sound, trips, Random};
 use reference::reader::QUESTIONS;
 use reference::rows::LONGEST;
 
@@ -26,6 +26,11 @@ pub fn accepted_jobs(tally: &mut Tally) {
         let draft = outlets(&mut random);
         run(tally, &mut random, &draft);
         tally.count("jobs near rest at their outlets", 1);
+    }
+    for _ in 0..8000 {
+        let draft = trips(&mut random);
+        run(tally, &mut random, &draft);
+        tally.count("jobs whose power fails", 1);
     }
 }
 
@@ -57,7 +62,8 @@ pub fn damaged_jobs(tally: &mut Tally) {
             tally.count("jobs damaged for one question", 1);
         }
         for &other in &QUESTIONS[place + 1..] {
-            for _ in 0..20 {
+            let times = if question == 10 { 80 } else { 20 };
+            for _ in 0..times {
                 let job = damaged(&mut random, &[question, other]);
                 let number = refused_everywhere(tally, &job);
                 assert_eq!(number, u64::from(question), "the question asked first decides");
@@ -65,6 +71,9 @@ pub fn damaged_jobs(tally: &mut Tally) {
                 match (question, other) {
                     (10, 50) => tally.count(ways::TEN_AND_FIFTY, 1),
                     (50, 11) => tally.count(ways::FIFTY_AND_ELEVEN, 1),
+                    (10, 53) => tally.count(ways::TEN_AND_FIFTY_THREE, 1),
+                    (50, 53) => tally.count(ways::FIFTY_AND_FIFTY_THREE, 1),
+                    (53, 11) => tally.count(ways::FIFTY_THREE_AND_ELEVEN, 1),
                     _ => {}
                 }
             }

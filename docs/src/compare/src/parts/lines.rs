@@ -3,7 +3,7 @@
 use crate::both::{differ, Lent};
 use crate::ours;
 use crate::tally::Tally;
-use reference::generate::{odd, sound, Random};
+use reference::generate::{odd, sound, trips, Random};
 use reference::listing::{line, listing};
 use reference::rows::LONGEST;
 use reference::wave::Point;
@@ -72,7 +72,11 @@ fn compare(
 pub fn listings(tally: &mut Tally) {
     let mut random = Random::new(108);
     for place in 0..300 {
-        let draft = if place % 2 == 0 { sound(&mut random) } else { odd(&mut random) };
+        let draft = match place % 3 {
+            0 => sound(&mut random),
+            1 => odd(&mut random),
+            _ => trips(&mut random),
+        };
         let job = draft.bytes();
         let mut lent = Lent::marked(LONGEST);
         ours::start(&job, &mut lent.store, lent.lengths);

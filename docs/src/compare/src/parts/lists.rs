@@ -4,7 +4,7 @@ use crate::both::{differ, same_rows, Lent};
 use crate::ours;
 use crate::tally::Tally;
 use reference::draft::Draft;
-use reference::generate::{cut_up, odd, sound, Random};
+use reference::generate::{cut_up, odd, sound, trips, Random};
 use reference::rows::{ROWS, SPARE};
 
 /// Must be reached.
@@ -13,7 +13,11 @@ pub const SPARE_TOO_SHORT: &str = "refused calls between run-ons, the spare alon
 pub fn lists(tally: &mut Tally) {
     let mut random = Random::new(104);
     for place in 0..3000 {
-        let mut draft = if place % 3 == 0 { odd(&mut random) } else { sound(&mut random) };
+        let mut draft = match place % 4 {
+            0 => odd(&mut random),
+            1 => trips(&mut random),
+            _ => sound(&mut random),
+        };
         // Some of those with long schedules go past step 255.
         draft.steps = draft.steps.max(random.from_to(1, 90) as u32);
         list(tally, &mut random, &draft);

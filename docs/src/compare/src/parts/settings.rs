@@ -140,7 +140,7 @@ fn rows(tally: &mut Tally, random: &mut Random) {
     }
 }
 
-/// Questions 1 to 15 and 50 come first, whatever level, discharge and rows are.
+/// Questions 1 to 15, 50 and 53 come first, whatever level, discharge and rows are.
 fn refused_jobs(tally: &mut Tally, random: &mut Random) {
     for (place, question) in QUESTIONS.into_iter().enumerate() {
         for _ in 0..40 {

@@ -6,8 +6,13 @@ use reference::job::Job;
 use reference::valve_setting::{outlet, Worked};
 
 /// By the form, in the order of `Form::ALL`.
-const FORMS: [&str; 3] =
-    ["valves set: five pairs", "valves set: table 6 empty", "valves set: table 6 full"];
+const FORMS: [&str; 5] = [
+    "valves set: five pairs",
+    "valves set: six pairs, table 6 empty",
+    "valves set: six pairs, table 6 full",
+    "valves set: seven pairs, table 6 empty",
+    "valves set: seven pairs, table 6 full",
+];
 const ONE_PIPE: &str = "valves set at the end of one pipe";
 const MOST_PIPES: &str = "valves set at the end of 31 pipes";
 const MOST_SECTIONS: &str = "valves set of 512 sections";

@@ -6,10 +6,12 @@ use reference::job::{Job, Kind};
 use reference::valve_setting::{not_chain, NotChain};
 
 /// By the form, in the order of `Form::ALL`.
-const FORMS: [&str; 3] = [
+const FORMS: [&str; 5] = [
     "refused 51: no chain, five pairs",
-    "refused 51: no chain, table 6 empty",
-    "refused 51: no chain, table 6 full",
+    "refused 51: no chain, six pairs, table 6 empty",
+    "refused 51: no chain, six pairs, table 6 full",
+    "refused 51: no chain, seven pairs, table 6 empty",
+    "refused 51: no chain, seven pairs, table 6 full",
 ];
 
 const MORE_PIPES: &str = "refused 51: as many nodes as pipes";
@@ -85,7 +87,8 @@ const LAYOUT_AND_NONE: &str = "refused 51 for the layout, with a discharge not a
 pub fn all() -> Vec<&'static str> {
     let together =
         [BOTH, LAYOUT_AND_NOT_FINITE, CHAIN_AND_52, LAYOUT_AND_52, LEVEL_AND_NONE, LAYOUT_AND_NONE];
-    let mut all = [FORMS, PIPE, ENTRY, JUNCTION, LEVEL, DISCHARGE].concat();
+    let mut all = [PIPE, ENTRY, JUNCTION, LEVEL, DISCHARGE].concat();
+    all.extend(FORMS);
     all.extend([MORE_PIPES, MORE_NODES]);
     all.extend([FIRST, LAST, BETWEEN].concat().into_iter().filter(|case| !case.is_empty()));
     all.extend([ONLY_ENTRY, LATE_ENTRY]);

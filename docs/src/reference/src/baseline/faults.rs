@@ -22,6 +22,12 @@ impl Faults {
         self.below[1] += u64::from(head.0[1] < floor.0[1]);
     }
 
+    /// A number whose finiteness is asked about, or a sum of such.
+    #[inline(always)]
+    pub fn look_at_sum(&mut self, sum: f64) {
+        self.sum = self.sum + Two::both(sum);
+    }
+
     /// No faulty section is missed; a sum past every f64 is a false alarm.
     pub fn any(&self) -> bool {
         !(self.sum.0[0] + self.sum.0[1]).is_finite() | (self.below[0] + self.below[1] > 0)

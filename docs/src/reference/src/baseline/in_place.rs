@@ -14,7 +14,7 @@ mod sweep;
 mod waves;
 
 use super::admitted;
-use super::ends::Ends;
+use super::ends::{Ends, Pairs};
 use super::faults::Faults;
 use super::plan::{Plan, MOST};
 use super::two::Two;
@@ -48,9 +48,12 @@ fn run_on_with<const BOUNDS: bool>(
     if !(plan.read(job) && admitted(&plan, done, count, &rows)) {
         return run::run_on(job, done, count, rows);
     }
-    let watches = [Watch::NONE; MOST];
-    let mut work = Work::<BOUNDS> { plan: &plan, rows: &mut rows, ends: Ends::none(), watches };
+    let (ends, watches) = (Ends::none(), [Watch::NONE; MOST]);
+    let mut work = Work::<BOUNDS> { plan: &plan, rows: &mut rows, ends, watches };
     let ran = work.run(done, count);
+    if ran.done > done {
+        pairs(&mut rows).clear_others(&plan);
+    }
     rows.clear_spare(plan.needed());
     Ok(ran)
 }
@@ -89,9 +92,11 @@ impl<const BOUNDS: bool> Work<'_, '_, '_, BOUNDS> {
     /// Writes the new end sections into the spare; answers the stop, if this step stops the run.
     #[inline(always)]
     fn stop(&mut self, step: u64) -> Option<Stop> {
-        let (plan, spare) = (self.plan, &mut self.rows.spare[..4 * self.plan.pipes().len()]);
+        let Rows { speeds, inflows, spare, .. } = &mut *self.rows;
+        let (plan, spare) = (self.plan, &mut spare[..4 * self.plan.pipes().len()]);
+        let lent = Pairs { speeds, inflows };
         let (mut faults, mut certain) = (Faults::none(), true);
-        self.ends.new_ends(plan, step, |number, pipe, start, finish| {
+        let sum = self.ends.new_ends(plan, step, &lent, |number, pipe, start, finish| {
             let new = [start.head, start.flow, finish.head, finish.flow];
             spare[4 * number..4 * number + 4].copy_from_slice(&new);
             let (heads, flows) = ([start.head, finish.head], [start.flow, finish.flow]);
@@ -104,6 +109,7 @@ impl<const BOUNDS: bool> Work<'_, '_, '_, BOUNDS> {
                 watch.take_note(step, pipe.s, new);
             }
         });
+        faults.look_at_sum(sum);
         if BOUNDS {
             if certain & !faults.any() {
                 return None;
@@ -170,7 +176,7 @@ impl<const BOUNDS: bool> Work<'_, '_, '_, BOUNDS> {
             })
         });
         let floors = plan.pipes().iter().flat_map(|pipe| plan.initial(pipe)).map(floor);
-        first_stop(new, floors)
+        first_stop(new, floors, self.ends.pair_not_finite(plan))
     }
 
     /// A step that does not stop: the new state in the place of the old one, the envelopes, and K
@@ -178,6 +184,7 @@ impl<const BOUNDS: bool> Work<'_, '_, '_, BOUNDS> {
     #[inline(always)]
     fn take_over(&mut self) {
         let plan = self.plan;
+        self.ends.take_over_pairs(plan, &mut pairs(self.rows));
         self.ends.clear(plan.nodes().len());
         for (number, pipe) in plan.pipes().iter().enumerate() {
             let ends = new_ends(self.rows.spare, number);
@@ -186,6 +193,11 @@ impl<const BOUNDS: bool> Work<'_, '_, '_, BOUNDS> {
             self.ends.set(number, pipe, k);
         }
     }
+}
+
+#[inline(always)]
+fn pairs<'a>(rows: &'a mut Rows<'_>) -> Pairs<'a> {
+    Pairs { speeds: rows.speeds, inflows: rows.inflows }
 }
 
 /// A pipe's new ends out of the spare: head and flow at the start, head and flow at the finish.

@@ -10,7 +10,9 @@ use crate::rows::Rows;
 /// True where tables 3 and 4 and the lent state pass; false where they do not, or may not.
 #[inline(always)]
 pub fn sound(plan: &Plan<'_>, rows: &Rows<'_>) -> bool {
-    friction_sound(plan.all_friction()) && sections_sound(plan.all_initial(), rows)
+    friction_sound(plan.all_friction())
+        && sections_sound(plan.all_initial(), rows)
+        && pairs_sound(plan.nodes().len(), rows)
 }
 
 /// Question 13.
@@ -42,6 +44,13 @@ fn sections_sound(initial: &[[u8; 24]], rows: &Rows<'_>) -> bool {
     // An odd section is looked at together with the one above it.
     seen.take(last_two(initial), lent.map(|row| Two(*last_two(row))));
     finite(seen.sum) & not_below_zero(seen.least_above)
+}
+
+/// Question 22 of speeds and inflows.
+#[inline(always)]
+fn pairs_sound(nodes: usize, rows: &Rows<'_>) -> bool {
+    let pairs = rows.speeds[..nodes].iter().zip(&rows.inflows[..nodes]);
+    pairs.fold(0.0, |sum, (speed, inflow)| sum + (speed + inflow)).is_finite()
 }
 
 /// There are at least two sections.

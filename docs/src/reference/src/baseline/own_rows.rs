@@ -10,7 +10,7 @@ mod sweep;
 mod tables;
 
 use super::admitted;
-use super::ends::Ends;
+use super::ends::{Ends, Pairs};
 use super::faults::Faults;
 use super::plan::Plan;
 use super::two::Two;
@@ -37,27 +37,30 @@ fn run(plan: &Plan<'_>, done: u64, count: u64, rows: &mut Rows<'_>) -> Ran {
     let sections = plan.sections;
     let mut tables = Tables::empty();
     tables.copy(plan);
+    let mut work = Work { plan, tables: &tables, ends: Ends::none() };
+    let mut pairs = Pairs { speeds: rows.speeds, inflows: rows.inflows };
     let (mut own_heads, mut own_flows) = ([0.0; MOST_SECTIONS], [0.0; MOST_SECTIONS]);
     let mut old = State { heads: &mut rows.heads[..sections], flows: &mut rows.flows[..sections] };
     let mut new = State { heads: &mut own_heads[..sections], flows: &mut own_flows[..sections] };
     let mut envelopes =
         Envelopes { highest: &mut rows.highest[..sections], lowest: &mut rows.lowest[..sections] };
-    let mut work = Work { plan, tables: &tables, ends: Ends::none() };
     let mut ran = Ran { done, stop: None };
     for step in done + 1..=done + count {
         // The state lent is no step of this call, so the first sweep leaves the envelopes alone.
         let faults = if step == done + 1 {
-            work.one_step::<false>(step, &old, &mut new, &mut envelopes)
+            work.one_step::<false>(step, &pairs, &old, &mut new, &mut envelopes)
         } else {
-            work.one_step::<true>(step, &old, &mut new, &mut envelopes)
+            work.one_step::<true>(step, &pairs, &old, &mut new, &mut envelopes)
         };
         if faults.any() {
-            ran.stop = first_stop(new.points(), tables.floors.iter().copied());
+            let floors = tables.floors.iter().copied();
+            ran.stop = first_stop(new.points(), floors, work.ends.pair_not_finite(plan));
             if ran.stop.is_some() {
                 break;
             }
         }
         ran.done = step;
+        work.ends.take_over_pairs(plan, &mut pairs);
         std::mem::swap(&mut old, &mut new);
     }
     if ran.stop.is_none() && ran.done > done {
@@ -66,6 +69,9 @@ fn run(plan: &Plan<'_>, done: u64, count: u64, rows: &mut Rows<'_>) -> Ran {
     if (ran.done - done) % 2 == 1 {
         rows.heads[..sections].copy_from_slice(&own_heads[..sections]);
         rows.flows[..sections].copy_from_slice(&own_flows[..sections]);
+    }
+    if ran.done > done {
+        pairs.clear_others(plan);
     }
     ran
 }
@@ -82,6 +88,7 @@ impl Work<'_, '_> {
     fn one_step<const TAKE: bool>(
         &mut self,
         step: u64,
+        pairs: &Pairs<'_>,
         old: &State<'_>,
         new: &mut State<'_>,
         envelopes: &mut Envelopes<'_>,
@@ -93,13 +100,14 @@ impl Work<'_, '_> {
             self.ends.set(number, pipe, k);
         }
         let floors = &self.tables.floors;
-        self.ends.new_ends(self.plan, step, |_, pipe, start, finish| {
+        let sum = self.ends.new_ends(self.plan, step, pairs, |_, pipe, start, finish| {
             let (first, last) = (pipe.first, pipe.first + pipe.reaches);
             (new.heads[first], new.flows[first]) = (start.head, start.flow);
             (new.heads[last], new.flows[last]) = (finish.head, finish.flow);
             let (heads, flows) = ([start.head, finish.head], [start.flow, finish.flow]);
             faults.look_at(Two(heads), Two(flows), Two([floors[first], floors[last]]));
         });
+        faults.look_at_sum(sum);
         faults
     }
 }

@@ -127,7 +127,7 @@ mod tests {
                 assert_eq!(not_chain(&read(&draft.bytes()).unwrap()), None);
                 forms.insert(draft.form.place());
             }
-            assert_eq!(forms.len(), 3, "{causes:?}");
+            assert_eq!(forms.len(), 5, "{causes:?}");
         }
     }
 

@@ -1,6 +1,7 @@
 //! Damaged jobs: for each question one that it refuses, and jobs damaged anywhere.
 
 use super::sound::sound_with;
+use super::trips::more_pumps;
 use super::{odd, sound, Random};
 use crate::draft::Draft;
 use crate::layout::{pair_at, Form};
@@ -34,7 +35,12 @@ pub(super) const BYTES_TO_DAMAGE: usize = 28_000;
 /// The same of this job, which is accepted.
 pub fn damaged_from(random: &mut Random, mut draft: Draft, questions: &[u8]) -> Vec<u8> {
     if questions.contains(&50) && draft.form == Form::FivePairs {
-        draft.form = random.pick(&[Form::EmptyTable6, Form::FullTable6]);
+        draft.form = random.pick(&Form::ALL[1..]);
+    }
+    if questions.contains(&53) {
+        // With several pumps a record can stand between others.
+        more_pumps(random, &mut draft);
+        draft.form = draft.form.of_seven();
     }
     let mut parts = Parts { steps: draft.steps, tables: draft.tables() };
     let mut from_last = questions.to_vec();

@@ -1,8 +1,7 @@
 //! Which nodes the pipes join.
 
 use super::Random;
-
-pub const MOST_NODES: usize = 32;
+use crate::reader::MOST_NODES;
 
 pub struct Network {
     pub nodes: usize,

@@ -85,6 +85,11 @@ fn replace(random: &mut Random, draft: &mut Draft, times: usize, choices: &Choic
     for node in &mut draft.nodes {
         replace_in_node(random, node, times, choices);
     }
+    for constant in draft.trips.iter_mut().flat_map(|trip| &mut trip.constants) {
+        if random.once_in(times) {
+            *constant = random.pick(choices.sizes);
+        }
+    }
 }
 
 fn replace_in_node(random: &mut Random, node: &mut DraftNode, times: usize, choices: &Choices) {

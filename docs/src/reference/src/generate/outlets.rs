@@ -15,6 +15,8 @@ pub fn outlets(random: &mut Random) -> Draft {
     for (number, node) in draft.nodes.iter_mut().enumerate() {
         *node = node_at(random, level, if number == valve { 2 } else { node.kind });
     }
+    // A pump may have become a valve, whose trip would be refused.
+    draft.trips.retain(|trip| draft.nodes[usize::from(trip.node)].kind == 3);
     for pipe in &mut draft.pipes {
         pipe.s = tenths(random, 60);
     }

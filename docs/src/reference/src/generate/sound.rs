@@ -1,6 +1,7 @@
 //! Sound jobs: every kind of node and network, in figures of an engineer or in small whole ones.
 
 use super::network::{network, Network};
+use super::trips::add_trips;
 use super::Random;
 use crate::draft::{Draft, DraftNode};
 use crate::layout::Form;
@@ -22,6 +23,7 @@ pub fn sound_with(random: &mut Random, most_pipes: usize, most_bytes: usize) -> 
     }
     add_pipes(random, figures, &network, &mut draft);
     add_sections(random, figures, &mut draft);
+    add_trips(random, &mut draft);
     shorten_schedules(&mut draft, most_bytes);
     let longest = draft.longest_schedule();
     if longest > Form::FivePairs.most_entries() && random.once_in(4) {
@@ -52,7 +54,7 @@ pub(super) fn entry_count(random: &mut Random, form: Form) -> usize {
     match random.below(8) {
         0..=2 => 1,
         3..=6 => random.from_to(2, 9),
-        _ if form == Form::FullTable6 && random.once_in(2) => random.from_to(256, 1200),
+        _ if form.counts_in_table_6() && random.once_in(2) => random.from_to(256, 1200),
         _ => random.from_to(10, 255),
     }
 }
@@ -139,7 +141,7 @@ pub(super) fn shorten_schedules(draft: &mut Draft, most_bytes: usize) {
 
 #[cfg(test)]
 mod tests {
-    use super::super::{odd, outlets};
+    use super::super::{odd, outlets, trips};
     use super::*;
     use crate::listing::listing;
     use std::collections::BTreeSet;
@@ -166,7 +168,7 @@ mod tests {
     #[test]
     fn jobs_have_every_form() {
         let mut random = Random::new(7);
-        let (mut short, mut long, mut past) = ([0; 3], [0; 3], 0);
+        let (mut short, mut long, mut past) = ([0; 5], [0; 5], 0);
         for _ in 0..1500 {
             let draft = sound(&mut random);
             let form = draft.form.place();
@@ -179,12 +181,16 @@ mod tests {
             }
         }
         assert!(short.iter().all(|&count| count > 100), "{short:?}");
-        assert!(long[..2] == [0, 0] && long[2] > 100 && past > 20, "{long:?} {past}");
+        let by_bytes = [long[0], long[1], long[3]];
+        assert!(by_bytes == [0; 3] && long[2] > 50 && long[4] > 50, "{long:?}");
+        assert!(past > 20, "{past}");
     }
 
     #[test]
     fn jobs_are_accepted_and_end_in_every_way() {
-        for (make, seed, most_pipes) in [(sound as Make, 4, 32), (odd, 5, 32), (outlets, 6, 6)] {
+        for (make, seed, most_pipes) in
+            [(sound as Make, 4, 32), (odd, 5, 32), (outlets, 6, 6), (trips, 7, 8)]
+        {
             let (pipes, ends) = met(make, seed);
             assert_eq!(pipes, (1..=most_pipes).collect());
             assert_eq!(ends, ["done", "notfinite", "parted"].map(String::from).into());

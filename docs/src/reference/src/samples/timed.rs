@@ -55,6 +55,27 @@ pub fn many_pipes(reaches: u16) -> Draft {
     draft
 }
 
+/// 16 pumps, each with a main of so many reaches to a reservoir of its own. All are tripped at the first step, with so
+/// much rotating mass that they deliver for 10,000 steps and more.
+pub fn tripped_pumps(reaches: u16) -> Draft {
+    let mut draft = Draft { steps: 10_000, ..Draft::default() };
+    for _ in 0..16 {
+        let pump = draft.node(DraftNode::pump(95.0, 2000.0, 2.0, &[1.0]));
+        let reservoir = draft.node(DraftNode::reservoir(&[60.0]));
+        draft.pipe(pump, reservoir, reaches, 0.001, 0.01);
+        draft.trip(pump, 1, [1e-5, 0.4, 5.0]);
+    }
+    for _ in 0..draft.section_count() {
+        draft.section(60.0, 0.0, -10.0);
+    }
+    draft
+}
+
+/// The same without its trips.
+pub fn without_trips(draft: &Draft) -> Draft {
+    Draft { trips: Vec::new(), ..draft.clone() }
+}
+
 /// A reservoir and a valve, joined by so many pipes of one reach.
 pub fn short_main(pipes: usize) -> Draft {
     let mut draft = Draft { steps: 4_000, ..Draft::default() };
@@ -85,7 +106,8 @@ pub fn with_one_entry(draft: &Draft) -> Draft {
 /// The same, counted in table 6, with the schedules from node `first` on repeated over and over to as
 /// many entries as a job holds.
 pub fn with_longest_schedules(draft: &Draft, first: usize) -> Draft {
-    let mut long = draft.in_form(Form::FullTable6);
+    let full = if draft.trips.is_empty() { Form::FullTable6 } else { Form::SevenFullTable6 };
+    let mut long = draft.in_form(full);
     long.nodes[first..].iter_mut().for_each(|node| node.schedule.clear());
     let (entries, nodes) = ((MOST_BYTES - long.byte_count()) / 8, draft.nodes.len() - first);
     for (place, (node, old)) in
@@ -99,14 +121,24 @@ pub fn with_longest_schedules(draft: &Draft, first: usize) -> Draft {
 
 /// The longest jobs: one schedule as long as can be, which leaves four bytes over; the same in as many
 /// bytes as a full table 6 allows, for such a job's length is 2 modulo 4; the same of 32 nodes; and all
-/// the bytes that there may be, with table 6 empty.
-pub fn longest_jobs() -> [Draft; 4] {
+/// the bytes that there may be, with table 6 empty, and with table 6 full and seven power failures.
+pub fn longest_jobs() -> [Draft; 5] {
     [
         with_longest_schedules(&short_main(1), 1),
         with_longest_schedules(&short_main(2), 1),
         with_longest_schedules(&many_pipes(1), 0),
         longest_with_table_6_empty(),
+        with_longest_schedules(&seven_tripped(), 0),
     ]
+}
+
+/// The rings of one reach a pipe; seven of their eight pumps run down from step 100 on.
+fn seven_tripped() -> Draft {
+    let mut draft = many_pipes(1);
+    for ring in 1..8 {
+        draft.trip(4 * ring + 3, 100, [1e-4, 0.5, 1.0]);
+    }
+    draft
 }
 
 /// A chain of eight pipes of 63 reaches with six pairs, an empty table 6 and exactly as many bytes as a

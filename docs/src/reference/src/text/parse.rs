@@ -1,7 +1,7 @@
 //! A job from its text.
 
-use super::{FIGURES, FORMS, KINDS, KINDS_IN_WORDS};
-use crate::draft::{Draft, DraftNode, DraftPipe};
+use super::{CONSTANTS, FIGURES, FORMS, KINDS, KINDS_IN_WORDS};
+use crate::draft::{Draft, DraftNode, DraftPipe, DraftTrip};
 use crate::layout::Form;
 use std::str::{FromStr, SplitWhitespace};
 
@@ -13,6 +13,8 @@ struct Said {
     schedules: Vec<(usize, Vec<f64>)>,
     /// What a `counts` line asked for, with its number.
     counts: Option<(usize, Form)>,
+    /// The line that said that there are no trips, but a table for them.
+    no_trips: Option<usize>,
 }
 
 /// The job that the text says, or in words what does not read.
@@ -24,7 +26,7 @@ pub fn from_text(text: &str) -> Result<Draft, String> {
             .map_err(|words| format!("line {at}: {words}"))?;
     }
     schedules_fit(&said)?;
-    let Said { mut draft, schedules, counts } = said;
+    let Said { mut draft, schedules, counts, no_trips } = said;
     let (nodes, given) = (draft.nodes.len(), schedules.len());
     if nodes != given {
         return Err(format!("there are {nodes} nodes but {given} schedules"));
@@ -32,7 +34,9 @@ pub fn from_text(text: &str) -> Result<Draft, String> {
     for (node, (_, schedule)) in draft.nodes.iter_mut().zip(schedules) {
         node.schedule = schedule;
     }
-    draft.form = counts.map_or(draft.fewest_pairs(), |(_, form)| form);
+    let form = counts.map_or(draft.fewest_pairs(), |(_, form)| form);
+    let seven = no_trips.is_some() || !draft.trips.is_empty();
+    draft.form = if seven { form.of_seven() } else { form };
     Ok(draft)
 }
 
@@ -112,6 +116,24 @@ fn read_line(mut words: Words<'_>, at: usize, said: &mut Said) -> Result<(), Str
             }
             said.counts = Some((at, counts(&mut words)?));
         }
+        "trip" => {
+            if let Some(line) = said.no_trips {
+                return Err(format!("line {line} has said that there are no trips"));
+            }
+            draft.trips.push(trip(&mut words)?);
+        }
+        "trips" => {
+            let word: String = words.value("trips")?;
+            if word != "none" {
+                return Err(format!(
+                    "`{word}` does not fit as trips; it is `none`, or a line `trip` for each"
+                ));
+            }
+            if !draft.trips.is_empty() {
+                return Err("a line before has a trip".to_string());
+            }
+            said.no_trips = Some(at);
+        }
         word => return Err(format!("no line begins with `{word}`")),
     }
     words.end()
@@ -136,6 +158,15 @@ fn node(words: &mut Words<'_>) -> Result<DraftNode, String> {
         *figure = words.named(name)?;
     }
     Ok(DraftNode { kind: kind as u8, figures, schedule: Vec::new() })
+}
+
+fn trip(words: &mut Words<'_>) -> Result<DraftTrip, String> {
+    let (node, step) = (words.named("node")?, words.named("step")?);
+    let mut constants = [0.0; 3];
+    for (name, constant) in CONSTANTS.iter().zip(&mut constants) {
+        *constant = words.named(name)?;
+    }
+    Ok(DraftTrip { node, step, constants })
 }
 
 fn schedule(words: &mut Words<'_>) -> Result<Vec<f64>, String> {

@@ -1,7 +1,8 @@
 //! A job to its text.
 
-use super::{FIGURES, FORMS, KINDS};
-use crate::draft::{Draft, DraftNode};
+use super::{CONSTANTS, FIGURES, FORMS, KINDS};
+use crate::draft::{Draft, DraftNode, DraftTrip};
+use crate::layout::Form;
 use std::fmt::Write;
 
 /// The shortest decimal that reads back to the same bits.
@@ -21,10 +22,16 @@ pub fn to_text(about: &str, draft: &Draft) -> String {
     }
     text += &format!("steps {}\n", draft.steps);
     text += &counts_line(draft);
+    if draft.trips.is_empty() && Form::OF_SEVEN.contains(&draft.form) {
+        text += "trips none\n";
+    }
     text += "\n";
     text += &pipe_lines(draft);
     for (node, at) in draft.nodes.iter().zip(0..) {
         text += &remarked(&node_line(node), &format!("node {at}"));
+    }
+    for trip in &draft.trips {
+        text += &trip_line(trip);
     }
     text += "\n";
     text += &reach_and_section_lines(draft);
@@ -38,10 +45,16 @@ pub fn to_text(about: &str, draft: &Draft) -> String {
 
 /// The `counts` line, where the text without one would have another form.
 fn counts_line(draft: &Draft) -> String {
-    match FORMS.iter().find(|&&(_, form)| form == draft.form) {
-        Some(&(word, form)) if form != draft.fewest_pairs() => format!("counts {word}\n"),
-        _ => String::new(),
-    }
+    let fewest = draft.fewest_pairs();
+    // Seven pairs need no line `counts empty`: `trips none` or a line `trip` asks for them.
+    let said = match draft.form {
+        Form::SevenEmptyTable6 => None,
+        Form::SevenFullTable6 if fewest.counts_in_table_6() => None,
+        Form::SevenFullTable6 => Some(Form::FullTable6),
+        form => Some(form).filter(|&form| form != fewest),
+    };
+    let word = said.and_then(|said| FORMS.iter().find(|&&(_, form)| form == said));
+    word.map_or(String::new(), |(word, _)| format!("counts {word}\n"))
 }
 
 /// A line with a remark after it.
@@ -74,6 +87,14 @@ fn node_line(node: &DraftNode) -> String {
         write!(line, " {name} {}", number(figure)).expect("a string takes all text");
     }
     line
+}
+
+fn trip_line(trip: &DraftTrip) -> String {
+    let mut line = format!("trip node {} step {}", trip.node, trip.step);
+    for (name, &constant) in CONSTANTS.iter().zip(&trip.constants) {
+        write!(line, " {name} {}", number(constant)).expect("a string takes all text");
+    }
+    line + "\n"
 }
 
 fn reach_and_section_lines(draft: &Draft) -> String {

@@ -4,14 +4,16 @@ use super::super::Random;
 use super::add_to_u32;
 use crate::layout::{pair_at, pair_count, FEWEST_PAIRS, MOST_PAIRS};
 
-/// Question 2: a count that is not admitted, or the greatest in a file that ends before its pairs do.
+/// Question 2: a count that is not admitted, or one above the least in a file that ends before its pairs
+/// do.
 pub fn change_count(random: &mut Random, bytes: &mut Vec<u8>) {
     let greatest = MOST_PAIRS as u16;
     let mut count =
-        random.pick(&[0, 1, 2, 3, 4, greatest + 1, greatest + 2, 5 << 8, 6 << 8, u16::MAX]);
+        random.pick(&[0, 1, 2, 3, 4, greatest + 1, greatest + 2, 5 << 8, 6 << 8, 7 << 8, u16::MAX]);
     if random.once_in(3) {
-        count = greatest;
-        bytes.truncate(random.from_to(pair_at(FEWEST_PAIRS), pair_at(MOST_PAIRS) - 1));
+        count = random.pick(&[6, greatest, greatest]);
+        let end = pair_at(count.into()).min(bytes.len());
+        bytes.truncate(random.from_to(pair_at(FEWEST_PAIRS), end - 1));
     }
     bytes[..2].copy_from_slice(&count.to_le_bytes());
 }
@@ -28,21 +30,25 @@ pub fn part_tables(random: &mut Random, bytes: &mut Vec<u8>) {
         3 => {
             bytes.truncate(bytes.len() - 1);
         }
-        4 => begin_elsewhere(bytes, pairs),
+        4 => begin_elsewhere(random, bytes, pairs),
         _ => wrap_tables(random, bytes, pairs),
     }
 }
 
-/// Everything well laid out, but that the first table begins where the other number of pairs would
-/// end: eight bytes after the last pair, or at the last pair, which is then a part of that table.
-fn begin_elsewhere(bytes: &mut Vec<u8>, pairs: usize) {
-    if pairs == MOST_PAIRS {
-        add_to_u32(bytes, pair_at(0), 8_u32.wrapping_neg());
-        return add_to_u32(bytes, pair_at(0) + 4, 8);
+/// Everything well laid out, but that the first table begins where another number of pairs would end:
+/// some bytes after the last pair, or at one of the last pairs, which is then a part of that table.
+fn begin_elsewhere(random: &mut Random, bytes: &mut Vec<u8>, pairs: usize) {
+    let others: Vec<_> = (FEWEST_PAIRS..=MOST_PAIRS).filter(|&other| other != pairs).collect();
+    let other = random.pick(&others);
+    if other < pairs {
+        let nearer = (pair_at(pairs) - pair_at(other)) as u32;
+        add_to_u32(bytes, pair_at(0), nearer.wrapping_neg());
+        return add_to_u32(bytes, pair_at(0) + 4, nearer);
     }
-    bytes.splice(pair_at(pairs)..pair_at(pairs), [0; 8]);
+    let farther = pair_at(other) - pair_at(pairs);
+    bytes.splice(pair_at(pairs)..pair_at(pairs), vec![0; farther]);
     for pair in 0..pairs {
-        add_to_u32(bytes, pair_at(pair), 8);
+        add_to_u32(bytes, pair_at(pair), farther as u32);
     }
 }
 

@@ -1,9 +1,10 @@
-//! Damage inside the tables, for questions 5 to 15 and 50. Each breaks its question and none before it.
+//! Damage inside the tables, for questions 5 to 15, 50 and 53. Each breaks its question and none before it.
 
 use super::super::Random;
 use super::Parts;
 
 mod counts;
+mod trips;
 
 const PIPE: usize = 12;
 const NODE: usize = 26;
@@ -23,6 +24,7 @@ pub fn damage(random: &mut Random, parts: &mut Parts, question: u8) {
         }
         10 => bad_kind_or_byte(random, parts),
         50 => counts::bad_counts(random, parts),
+        53 => trips::bad_trips(random, parts),
         11 => bad_figure(random, parts),
         12 => lone_node(random, parts),
         13 => {
