@@ -20,9 +20,9 @@ GOAL = re.compile(r"^ *(tie|goal|given)\.")
 FUNCTIONS = set("length take drop map append set get_or listed fill cond mul add sub div pow neg lt le eqb all_below min max bits".split())
 # names that would fall together with another, or that a plain rule would spell wrongly
 BY_HAND = {
-    "getD-all": "get_or-all",
+    "getD-all": "get_or_all",
     "getD-listed": "get_or-listed",
-    "getD-listed-cong": "get_or-listed_cong",
+    "getD-listed-cong": "get_or_listed_cong",
     "getD-within": "get_or_within",
     "new_in": "new_in_lem",
     "pump-H": "pump_head_level",
@@ -145,6 +145,8 @@ def spellings(root):
 
 def main(root):
     table = spellings(root)
+    if "newIn" not in table:
+        raise SystemExit("respell: the names are turned already")
     for path in files(root, (".antt", ".rt")):
         with open(path, encoding="utf-8") as f:
             text = f.read()

@@ -1,7 +1,7 @@
 -- The format of a job: the pairs, the tables, and the record that the bytes are read into. Past its end a list of bytes reads as 0. Definitions only.
 use Rattle.std.specs.Prelude.{Bool, cond, List, [], ◌∷◌, ℕ, zero, suc, ◌+◌, ◌*◌, ◌/◌, length, take, drop, ltb, eqb, Float}
 use Rattle.fields.specs.Bytes.{u8_at, u16_at, u32_at, f64_at}
-use Rattle.job.specs.Job.{Pipe, Kind, junction, reservoir, valve, pump, check_valve, ScheduledNode, Initial, Trip, Job}
+use Rattle.job.specs.Job.{Pipe, Kind, junction, reservoir, valve, pump, ScheduledNode, Initial, Trip, Job}
 use Rattle.loops.specs.Loops.{listed}
 
 -- ---- "u16 count of pairs, u32 steps for the listing, then pairs (u32 offset, u32 length), sorted by offset"
@@ -93,14 +93,13 @@ b_of nodes node = f64_at nodes (node * 26 + 10)
 abbrev pub c_of : List ℕ → ℕ → Float
 c_of nodes node = f64_at nodes (node * 26 + 18)
 
--- "0, junction", "1, reservoir", "2, valve", "3, pump", and request 8's "kind 4". Another number is no kind (10), and a junction stands for it.
+-- "0, junction", "1, reservoir", "2, valve", "3, pump"
 unfoldable pub kind_in : List ℕ → ℕ → Kind
 kind_in nodes node =
     cond (eqb (kind_number nodes node) 0) junction
     (cond (eqb (kind_number nodes node) 1) reservoir
     (cond (eqb (kind_number nodes node) 2) (valve (a_of nodes node) (b_of nodes node))
-    (cond (eqb (kind_number nodes node) 3) (pump (a_of nodes node) (b_of nodes node) (c_of nodes node))
-    (cond (eqb (kind_number nodes node) 4) (check_valve (a_of nodes node)) junction))))
+    (pump (a_of nodes node) (b_of nodes node) (c_of nodes node))))
 
 -- ---- "3. One f64 R per reach, pipe by pipe."
 

@@ -2,7 +2,7 @@
 use Rattle.std.specs.Prelude.{List, [], ◌∷◌, ℕ, suc, ◌+◌, ◌-◌, min, length, get_or, Float}
 use Rattle.fields.specs.Real.{zero64}
 use Rattle.wave.specs.declared.Node as Wave
-use Rattle.wave.specs.declared.Node.TheVariants.{Junction, Reservoir, Valve, Pump, CheckValve}
+use Rattle.wave.specs.declared.Node.TheVariants.{Junction, Reservoir, Valve, Pump}
 
 -- A pipe: its start node, its finish node, its number of reaches, and S.
 pub record Pipe : Type 0 where
@@ -11,13 +11,12 @@ pub record Pipe : Type 0 where
   pub reaches : ℕ
   pub S : Float
 
--- "Each node is one of four kinds, carrying its own figures": valve a, b; pump a, b, c. Request 8 has a fifth, kind 4: a non-return valve in the line, a.
+-- "Each node is one of four kinds, carrying its own figures": valve a, b; pump a, b, c.
 pub data Kind : Type 0 where
   junction : Kind
   reservoir : Kind
   valve : Float → Float → Kind
   pump : Float → Float → Float → Kind
-  check_valve : Float → Kind
 
 pub record ScheduledNode : Type 0 where
   pub kind : Kind
@@ -93,10 +92,9 @@ entry_at vs n = get_or vs (min n (length vs) - 1) zero64
 unfoldable pub scheduled : Job → ℕ → ℕ → Float
 scheduled j n node = entry_at (node_at j node).schedule n
 
--- a kind with its scheduled value v: the node as the solver takes it. Kind 4 takes none: "its scheduled values must all be 1".
+-- a kind with its scheduled value v: the node as the solver takes it
 unfoldable pub with_value : Kind → Float → Wave.Node
 with_value junction v = Junction v
 with_value reservoir v = Reservoir v
 with_value (valve a b) v = Valve v a b
 with_value (pump a b c) v = Pump v a b c
-with_value (check_valve a) v = CheckValve a

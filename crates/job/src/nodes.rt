@@ -14,7 +14,7 @@ pub fn kind(nodes: &[u8], node: usize) -> usize
     fields::index(nodes[node * 26])
 }
 
-// A node with its figures and the value v. A number that is no kind, which question 10 refuses, gives a junction.
+// A node with its figures and the value v.
 pub fn node_with(nodes: &[u8], node: usize, v: f64) -> Node
     requires { (figures_fit nodes.now ≡ true) × (node < node_count nodes.now) }
     ensures { result ≡ with_value (kind_in nodes.now node) v }
@@ -29,13 +29,11 @@ pub fn node_with(nodes: &[u8], node: usize, v: f64) -> Node
             fields::f64_at(nodes, at + 2),
             fields::f64_at(nodes, at + 10),
         ),
-        3 => Node::Pump(
+        _ => Node::Pump(
             v,
             fields::f64_at(nodes, at + 2),
             fields::f64_at(nodes, at + 10),
             fields::f64_at(nodes, at + 18),
         ),
-        4 => Node::CheckValve(fields::f64_at(nodes, at + 2)),
-        _ => Node::Junction(v),
     }
 }

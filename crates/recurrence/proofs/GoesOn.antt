@@ -17,7 +17,7 @@ use Rattle.loops.proofs.Tests.{both, cond_all}
 use Rattle.loops.proofs.All.{all_at, all_of}
 use Rattle.loops.proofs.First.{first_each}
 use Rattle.loops.proofs.Listed.{get_or-listed}
-use Rattle.job.specs.Job.{Job, Kind, junction, reservoir, valve, pump, check_valve, Laid, laid, sections, node_at, initial_at, floor_at, scheduled}
+use Rattle.job.specs.Job.{Job, Kind, junction, reservoir, valve, pump, Laid, laid, sections, node_at, initial_at, floor_at, scheduled}
 use Rattle.job.specs.Format.{job_of}
 use Rattle.job.specs.Questions.{ends_at, Accepted}
 use Rattle.job.proofs.Accepted.{nodes_length, accepted_met, accepted_reaches}
@@ -122,7 +122,6 @@ driven_finite junction v h = refl
 driven_finite reservoir v h = refl
 driven_finite (valve a b) v h = refl
 driven_finite (pump a b c) v h = rw h
-driven_finite (check_valve a) v h = refl
 
 start_fit : (job : List ℕ) → Accepted job → FitState (job_of job) (start_state (job_of job))
 unfolding start_state point_at drive_at start_point start_drive finite_point

@@ -4,7 +4,6 @@ pub mod DriveFigures
 pub mod EachRow
 pub mod Figures
 pub mod PowerFailure
-pub mod CheckedLine
 pub mod LaidPipes
 pub mod LocalStep
 pub mod Runs

@@ -1,6 +1,5 @@
 -- A step carries a difference over one reach at most: what it works out at a section turns on what stands beside it. Assumes nothing.
-use mathlib.Core.Path.{◌≡◌, refl, ap, ap₂, ◌∙◌}
-use mathlib.Core.Bool.{Bool, true, cond}
+use mathlib.Core.Path.{◌≡◌, refl, ap₂}
 use mathlib.Core.List.{List, [], ◌∷◌}
 use mathlib.Core.Option.{some}
 use Prim.Native.Nat.{ℕ, zero, suc, pred, ◌+◌, ◌≤◌, ◌<◌}
@@ -8,12 +7,11 @@ use native.Mathlib.Omega.{arith}
 use lib.Dec.{eqb}
 use lib.ListN.{get_elem?}
 use lib.Ieee.{Float}
-use Rattle.fields.specs.Real.{zero64}
 use borrow.Author.Tests.{eqb-true, eqb-false}
 use Rattle.wave.specs.Wave.{from_above, from_below, finish_k, start_k}
 use Rattle.job.specs.Job.{Laid}
 use Rattle.wave.specs.declared.Node.{Node}
-use Rattle.recurrence.specs.Step.{AlongPipes, along, cp_after, cm_before, k_at_finish, k_at_start, ends_of, sums_at, last_that, line_ends_at, boundary_at, located, Place, place, nowhere, at_finish, at_start, between, end_to_end, new_in_lem, new_at}
+use Rattle.recurrence.specs.Step.{AlongPipes, along, cp_after, cm_before, k_at_finish, k_at_start, ends_of, sums_at, head_at, located, Place, place, nowhere, at_finish, at_start, between, end_to_end, new_in, new_at}
 use Rattle.recurrence.specs.Paths.{EndAt, starts_at, finishes_at, Beside, down, up}
 use Rattle.loops.proofs.Tests.{cond_cong}
 use Rattle.recurrence.proofs.LaidPipes.{Found, FoundAt, located_found}
@@ -40,16 +38,6 @@ ends_alike a a' b b' y (l ∷ ls) h =
     (λ t. ap₂ ◌∷◌ (h.starts 0 l refl (eqb-true _ _ t)) e)
     (λ _. cond_cong (eqb l.pipe.finish y) (λ t. ap₂ ◌∷◌ (h.finishes 0 l refl (eqb-true _ _ t)) e) (λ _. e))
 
--- what the last that passes gives, where all that pass give the same
-last_alike :
-    {T A : Type 0} (passes : T → Bool) (f g : T → A) (x : A) (ts : List T)
-    → ((p : ℕ) (t : T) → get_elem? ts p ≡ some t → passes t ≡ true → f t ≡ g t) → last_that passes f x ts ≡ last_that passes g x ts
-unfolding last_that
-last_alike passes f g x [] h = refl
-last_alike {T} {A} passes f g x (t ∷ ts) h =
-    ap (λ (z : A). last_that passes f z ts) (cond_cong (passes t) (h 0 t refl) (λ _. refl))
-    ∙ last_alike passes f g (cond (passes t) (g t) x) ts (λ p. h (suc p))
-
 module _ (ls : List Laid) (w x : AlongPipes) (nodes others : ℕ → Node) (near : ℕ → Type 0) (c : Local ls w x nodes others near) where
   along_alike : (q : Float → Float → Float → Float → Float) (l : Laid) (i s o : ℕ) → near s → Beside ls (l.first_reach + i) s (l.first_section + o)
       → along q w l i o ≡ along q x l i o
@@ -72,45 +60,36 @@ module _ (ls : List Laid) (w x : AlongPipes) (nodes others : ℕ → Node) (near
   unfolding k_at_finish
   finish_k_lem p l s e q n = let some-reach = c.whole p l e in above finish_k p l (pred l.pipe.reaches) s e (omega arith) (omega arith) n
 
-  -- K of each end of a node, where each is near
-  ks_near : (y : ℕ) → ((t : ℕ) → EndAt ls y t → near t) → SameEnds (k_at_start w) (k_at_start x) (k_at_finish w) (k_at_finish x) y ls
-  ks_near y n = record {
-    starts = λ p l e q. start_k_lem p l l.first_section e refl (n _ (starts_at p l e q refl));
-    finishes = λ p l e q. finish_k_lem p l (l.first_section + l.pipe.reaches) e refl (n _ (finishes_at p l e q refl));
-  }
-
-  -- so its sums, and what a non-return valve there joins
+  -- a node's sums, where each of its ends is near
   pub sums_near : (y : ℕ) → ((t : ℕ) → EndAt ls y t → near t) → sums_at ls w y ≡ sums_at ls x y
   unfolding sums_at
-  sums_near y n = let e = ends_alike (k_at_start w) (k_at_start x) (k_at_finish w) (k_at_finish x) y ls (ks_near y n) in rw e
-
-  pub lines_near : (y : ℕ) → ((t : ℕ) → EndAt ls y t → near t) → line_ends_at ls w y ≡ line_ends_at ls x y
-  unfolding line_ends_at
-  lines_near y n =
-      let k = ks_near y n in
-      let finish = last_alike (λ l. eqb l.pipe.finish y) (k_at_finish w) (k_at_finish x) zero64 ls (λ p l e t. k.finishes p l e (eqb-true _ _ t)) in
-      let start = last_alike (λ l. eqb l.pipe.start y) (k_at_start w) (k_at_start x) zero64 ls (λ p l e t. k.starts p l e (eqb-true _ _ t)) in
-      rw (finish, start)
+  sums_near y n =
+      let e =
+      ends_alike (k_at_start w) (k_at_start x) (k_at_finish w) (k_at_finish x) y ls record {
+        starts = λ p l e q. start_k_lem p l l.first_section e refl (n _ (starts_at p l e q refl));
+        finishes = λ p l e q. finish_k_lem p l (l.first_section + l.pipe.reaches) e refl (n _ (finishes_at p l e q refl));
+      } in
+      rw e
 
   pub sums_alike : (y s : ℕ) → near s → EndAt ls y s → sums_at ls w y ≡ sums_at ls x y
   sums_alike y s n a = sums_near y (λ t b. c.across y s t n a b)
 
-  boundary_alike : (y s : ℕ) → near s → EndAt ls y s → boundary_at ls w nodes y ≡ boundary_at ls x others y
-  unfolding boundary_at
-  boundary_alike y s n a = cc (c.node y s n a, sums_alike y s n a, lines_near y (λ t b. c.across y s t n a b))
+  head_alike : (y s : ℕ) → near s → EndAt ls y s → head_at ls w nodes y ≡ head_at ls x others y
+  unfolding head_at
+  head_alike y s n a = cc (c.node y s n a, sums_alike y s n a)
 
-  new_in_lem : (l : Laid) (i s : ℕ) → near s → Found ls s l i → new_in_lem ls w nodes l i ≡ new_in_lem ls x others l i
-  unfolding new_in_lem end_to_end at_start at_finish between cp_after cm_before
+  new_in_lem : (l : Laid) (i s : ℕ) → near s → Found ls s l i → new_in ls w nodes l i ≡ new_in ls x others l i
+  unfolding new_in end_to_end at_start at_finish between cp_after cm_before
   new_in_lem l zero s n h =
       let p = h.number in
       let q : s ≡ l.first_section = omega arith in
-      cc (start_k_lem p l s h.listed q n, boundary_alike l.pipe.start s n (starts_at p l h.listed refl q))
+      cc (start_k_lem p l s h.listed q n, head_alike l.pipe.start s n (starts_at p l h.listed refl q))
   new_in_lem l (suc i) s n h =
       let p = h.number in
       cond_cong (eqb (suc i) l.pipe.reaches)
       (λ t. let r : suc i ≡ l.pipe.reaches = eqb-true _ _ t in
       let q : s ≡ l.first_section + l.pipe.reaches = omega arith in
-      cc (finish_k_lem p l s h.listed q n, boundary_alike l.pipe.finish s n (finishes_at p l h.listed refl q)))
+      cc (finish_k_lem p l s h.listed q n, head_alike l.pipe.finish s n (finishes_at p l h.listed refl q)))
       (λ t. let r : ¬ (suc i ≡ l.pipe.reaches) = eqb-false _ _ t in
       cc (above from_above p l i s h.listed (omega arith) h.stands n, below from_below p l (suc i) s h.listed (omega arith) h.stands n))
 

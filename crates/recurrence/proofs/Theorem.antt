@@ -8,7 +8,7 @@ use native.Mathlib.Omega.{arith}
 use lib.ListN.{length, get_elem?}
 use lib.Ieee.{Float}
 use Rattle.fields.specs.Real.{zero64}
-use Rattle.job.specs.Job.{Job, Pipe, Kind, junction, reservoir, valve, pump, check_valve, ScheduledNode, Laid, Initial, laid, laid_from, sections, sections_of, node_at, initial_at, friction_at, floor_at, scheduled, with_value}
+use Rattle.job.specs.Job.{Job, Pipe, Kind, junction, reservoir, valve, pump, ScheduledNode, Laid, Initial, laid, laid_from, sections, sections_of, node_at, initial_at, friction_at, floor_at, scheduled, with_value}
 use Rattle.job.specs.Format.{job_of}
 use Rattle.loops.specs.Loops.{listed}
 use Rattle.recurrence.specs.State.{Drive, State, no_drive, point_at, drive_at, drive_of, start_point, start_drive, start_state}
@@ -50,7 +50,6 @@ first_inflow junction v = refl
 first_inflow reservoir v = refl
 first_inflow (valve a b) v = refl
 first_inflow (pump a b c) v = refl
-first_inflow (check_valve a) v = refl
 
 start_inflow : (j : Job) (y : ℕ) → (drive_at (start_state j) y).inflow ≡ zero64
 unfolding drive_at start_state start_drive no_drive
@@ -127,7 +126,6 @@ module _ (A B : Job) (x k : ℕ) (al : AlikeBut x A B) (be : AlikeBefore k x A B
       go reservoir e = refl
       go (valve a b) e = refl
       go (pump a b c) e = rw (e tt)
-      go (check_valve a) e = refl
 
   closed : Reaches A → Closed A B far
   unfolding Cone

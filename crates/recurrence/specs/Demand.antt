@@ -2,7 +2,7 @@
 use Rattle.std.specs.Prelude.{◌≡◌, ◌↔◌, List, ℕ, suc, ◌+◌, ◌-◌, ◌≤◌, ◌<◌, length}
 use Rattle.std.proofs.Math.Option.{some}
 use Rattle.std.proofs.Math.ListN.{get_elem?}
-use Rattle.job.specs.Job.{Job, Kind, junction, reservoir, valve, pump, check_valve, laid, sections, node_at, scheduled}
+use Rattle.job.specs.Job.{Job, Kind, junction, reservoir, valve, pump, laid, sections, node_at, scheduled}
 use Rattle.job.specs.Format.{job_of}
 use Rattle.job.specs.Questions.{Accepted}
 use Rattle.recurrence.specs.State.{Point, Drive, point_at, drive_at}
@@ -36,7 +36,6 @@ IsPump junction = ⊥
 IsPump reservoir = ⊥
 IsPump (valve a b) = ⊥
 IsPump (pump a b c) = Unit {0}
-IsPump (check_valve a) = ⊥
 
 -- "Save the speed that the start writes at the edited pump itself: with k = 1 it follows the edited first entry": node y after m steps.
 pub record FirstEntry (j : Job) (x k m y : ℕ) : Type 0 where

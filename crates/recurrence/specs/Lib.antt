@@ -14,5 +14,4 @@ pub mod Figures
 pub mod OwnFigures
 pub mod PowerFailure
 pub mod TrippedJobs
-pub mod CheckedLine
 pub mod Sharp

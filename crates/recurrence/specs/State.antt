@@ -1,7 +1,7 @@
 -- What a run holds between steps, and what the start writes. Definitions only.
 use Rattle.std.specs.Prelude.{List, ℕ, length, get_or, Float}
 use Rattle.fields.specs.Real.{zero64}
-use Rattle.job.specs.Job.{Job, Kind, junction, reservoir, valve, pump, check_valve, Initial, sections, initial_at, node_at, scheduled}
+use Rattle.job.specs.Job.{Job, Kind, junction, reservoir, valve, pump, Initial, sections, initial_at, node_at, scheduled}
 use Rattle.loops.specs.Loops.{listed}
 
 -- What one section holds: its head and flow, and the two envelopes, the highest and the lowest head so far.
@@ -40,7 +40,6 @@ drive_of junction v q = no_drive
 drive_of reservoir v q = no_drive
 drive_of (valve a b) v q = no_drive
 drive_of (pump a b c) v q = record { speed = v; inflow = q }
-drive_of (check_valve a) v q = no_drive
 
 -- "The start writes the initial heads and flows, and both envelopes as the initial heads"; "the first scheduled speed and +0"
 unfoldable pub start_point : Initial → Point

@@ -5,11 +5,8 @@ use Rattle.fields.specs.Real.{zero64}
 use Rattle.wave.specs.declared.Node.{Node}
 use Rattle.wave.specs.declared.Sums.{Sums}
 use Rattle.wave.specs.declared.HeadFlow.{HeadFlow}
-use Rattle.wave.specs.declared.LineEnds.{LineEnds}
-use Rattle.wave.specs.declared.Boundary.{Boundary}
-use Rattle.wave.specs.Wave.{from_above, from_below, inner, finish_k, start_k, sums_of}
-use Rattle.wave.specs.Nodes.{node_inflow, rundown}
-use Rattle.wave.specs.Boundary.{node_boundary, finish_from, start_from}
+use Rattle.wave.specs.Wave.{from_above, from_below, inner, finish_k, start_k, finish_end, start_end, sums_of}
+use Rattle.wave.specs.Nodes.{node_head, node_inflow, rundown}
 use Rattle.job.specs.Job.{Job, Trip, Laid, laid, sections, friction_at, node_at, scheduled, with_value}
 use Rattle.loops.specs.Loops.{listed}
 use Rattle.recurrence.specs.State.{Point, Drive, State, point_at, drive_at, drive_of}
@@ -79,22 +76,9 @@ ends_of ofStart ofFinish node (l ∷ ls) =
 unfoldable pub sums_at : List Laid → AlongPipes → ℕ → Sums
 sums_at ls w node = sums_of (ends_of (k_at_start w) (k_at_finish w) node ls) (ends_of (λ l. l.pipe.S) (λ l. l.pipe.S) node ls)
 
--- The two ends at a non-return valve in the line. Request 8: "exactly one finish end (K1, S1) and one start end (K2, S2)", each with its own K, not a sum
--- from +0. There is one of each (54), so that the last is the one.
-unfoldable pub line_ends_at : List Laid → AlongPipes → ℕ → LineEnds
-line_ends_at ls w node =
-    let finishes : Laid → Bool = λ l. eqb l.pipe.finish node in
-    let starts : Laid → Bool = λ l. eqb l.pipe.start node in
-    record {
-      k1 = last_that finishes (k_at_finish w) zero64 ls;
-      s1 = last_that finishes (λ l. l.pipe.S) zero64 ls;
-      k2 = last_that starts (k_at_start w) zero64 ls;
-      s2 = last_that starts (λ l. l.pipe.S) zero64 ls;
-    }
-
--- what a node gives to its ends: a head, or a flow through a shut valve
-unfoldable pub boundary_at : List Laid → AlongPipes → (ℕ → Node) → ℕ → Boundary
-boundary_at ls w nodes node = node_boundary (nodes node) (sums_at ls w node) (line_ends_at ls w node)
+-- H of a node
+unfoldable pub head_at : List Laid → AlongPipes → (ℕ → Node) → ℕ → Float
+head_at ls w nodes node = node_head (nodes node) (sums_at ls w node)
 
 -- what a node holds after the step: "a finished step the new pair"
 unfoldable pub new_drive : Job → List Laid → AlongPipes → (ℕ → Float) → ℕ → Drive
@@ -113,12 +97,12 @@ located (l ∷ ls) s =
     let later = located ls s in
     cond (leb l.first_section s && leb s (l.first_section + l.pipe.reaches)) (place l (s - l.first_section)) later
 
--- head and flow at each end of a pipe, from the end's own K and what its node gives
+-- head and flow at each end of a pipe, from the end's own K and the head there
 unfoldable pub at_finish : List Laid → AlongPipes → (ℕ → Node) → Laid → HeadFlow
-at_finish ls w nodes l = finish_from l.pipe.S (k_at_finish w l) (boundary_at ls w nodes l.pipe.finish)
+at_finish ls w nodes l = finish_end l.pipe.S (k_at_finish w l) (head_at ls w nodes l.pipe.finish)
 
 unfoldable pub at_start : List Laid → AlongPipes → (ℕ → Node) → Laid → HeadFlow
-at_start ls w nodes l = start_from l.pipe.S (k_at_start w l) (boundary_at ls w nodes l.pipe.start)
+at_start ls w nodes l = start_end l.pipe.S (k_at_start w l) (head_at ls w nodes l.pipe.start)
 
 -- section i + 1 of a pipe, between its ends
 unfoldable pub between : AlongPipes → Laid → ℕ → HeadFlow
@@ -130,12 +114,12 @@ end_to_end reaches start finish inside zero = start
 end_to_end reaches start finish inside (suc i) = cond (eqb (suc i) reaches) finish (inside i)
 
 -- the new head and flow at offset i of a laid pipe, and at a section
-unfoldable pub new_in_lem : List Laid → AlongPipes → (ℕ → Node) → Laid → ℕ → HeadFlow
-new_in_lem ls w nodes l = end_to_end l.pipe.reaches (at_start ls w nodes l) (at_finish ls w nodes l) (between w l)
+unfoldable pub new_in : List Laid → AlongPipes → (ℕ → Node) → Laid → ℕ → HeadFlow
+new_in ls w nodes l = end_to_end l.pipe.reaches (at_start ls w nodes l) (at_finish ls w nodes l) (between w l)
 
 unfoldable pub new_at : List Laid → AlongPipes → (ℕ → Node) → Place → HeadFlow
 new_at ls w nodes nowhere = record { head = zero64; flow = zero64 }
-new_at ls w nodes (place l i) = new_in_lem ls w nodes l i
+new_at ls w nodes (place l i) = new_in ls w nodes l i
 
 -- "A finished step raises the maximum where the head is greater, lowers the minimum where it is less."
 unfoldable pub raised : Float → Float → Float

@@ -9,7 +9,7 @@ use Rattle.wave.specs.declared.HeadFlow.{HeadFlow}
 use Rattle.wave.specs.declared.Node.{Node}
 use Rattle.job.specs.Job.{Laid}
 use Rattle.job.specs.Format.{job_of}
-use Rattle.recurrence.specs.Step.{between, end_to_end, new_in_lem, new_at}
+use Rattle.recurrence.specs.Step.{between, end_to_end, new_in, new_at}
 use Rattle.recurrence.proofs.LaidPipes.{laid_located}
 use Rattle.pipe_layout.specs.Layout.{LaidAt}
 use Rattle.node_sums.specs.FromRows.{along_rows, new_section}
@@ -43,7 +43,7 @@ module _ (job : List ℕ) (l : Laid) (spare : List Float) (at : ℕ) (heads flow
 
 module _ (job : List ℕ) (nodes : ℕ → Node) (heads flows spare : List Float) (ends : EndsIn job nodes heads flows spare) (p : ℕ) (l : Laid) (is : LaidAt job p l) where
   pub by_spare : (i : ℕ) → i ≤ l.pipe.reaches → new_by_spare job l spare (p * 4) heads flows i ≡ new_section job nodes heads flows (l.first_section + i)
-  unfolding new_section new_at new_in_lem
+  unfolding new_section new_at new_in
   by_spare i h =
       ap₂ (λ (start finish : HeadFlow). end_to_end l.pipe.reaches start finish (between (along_rows job heads flows) l) i) (ends.at_start_figure p l is) (ends.at_finish_figure p l is)
       ∙ rw (laid_located (job_of job) p l i is h)

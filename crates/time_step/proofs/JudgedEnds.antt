@@ -19,7 +19,7 @@ use Rattle.wave.specs.Wave.{start_end, finish_end}
 use Rattle.wave.specs.Nodes.{node_head, node_inflow}
 use Rattle.job.specs.Job.{Job, Kind, junction, reservoir, valve, pump, Laid, laid, sections, node_at, with_value}
 use Rattle.recurrence.specs.State.{Point, Drive, State, no_drive, point_at, drive_at, drive_of}
-use Rattle.recurrence.specs.Step.{AlongPipes, along_pipes, value_at, nodes_with, sums_at, head_at, new_drive, Place, nowhere, place, located, k_at_start, k_at_finish, at_start, at_finish, between, end_to_end, new_in_lem, new_at, updated, new_point, advanced}
+use Rattle.recurrence.specs.Step.{AlongPipes, along_pipes, value_at, nodes_with, sums_at, head_at, new_drive, Place, nowhere, place, located, k_at_start, k_at_finish, at_start, at_finish, between, end_to_end, new_in, new_at, updated, new_point, advanced}
 use Rattle.recurrence.specs.Scan.{finite_point, finite_drive, driven_at, fault_of}
 use Rattle.recurrence.proofs.LaidPipes.{Found, FoundAt, located_found}
 use Rattle.recurrence.proofs.StepLaws.{advanced_at, driven_at_lem}
@@ -109,7 +109,7 @@ module _ (j : Job) (n : ℕ) (old : State) where
 
   module _ (present : (p : ℕ) (l : Laid) → get_elem? (laid j) p ≡ some l → BothPresent j l) where
     judged_place : (s : ℕ) (o : Place) → FoundAt ls s o → Judged (driven_at next o) (new_at ls w ended o) (new_at ls w nodes o)
-    unfolding driven_at new_at new_in_lem end_to_end at_start at_finish head_at start_end finish_end
+    unfolding driven_at new_at new_in end_to_end at_start at_finish head_at start_end finish_end
     judged_place s nowhere h = no_pair _
     judged_place s (place l zero) h =
         judged_end (start_end l.pipe.S (k_at_start w l)) (λ H. refl) (nodes l.pipe.start) (sums_at ls w l.pipe.start) _ (pair_at _ (present h.number l h.listed).start)

@@ -1,4 +1,3 @@
 pub mod Figures
-pub mod BoundaryFigures
 pub mod RundownFigures
 pub mod OpenAir

@@ -1,6 +1,5 @@
 -- The nodes: a valve's and a pump's flow, and the head of a node of each kind. Definitions only.
--- Document 01, 'Nodes', with document 02, 1/12, for the valve and 8/12 for the non-return valve in the line: v is the node's scheduled value at the step, B
--- and T are its sums.
+-- Document 01, 'Nodes', with document 02, 1/12, for the valve: v is the node's scheduled value at the step, B and T are its sums.
 use Rattle.std.specs.Prelude.{not, ◌&&◌, ◌||◌, cond, Float}
 use Rattle.std.specs.Float.Ieee.{lt, eq}
 use Rattle.std.specs.Float.Ieee.Scale.{finite}
@@ -8,7 +7,7 @@ use Rattle.fields.specs.Real.{◌⊞◌, ◌⊟◌, ◌⊠◌, ◌⊘◌, zero64
 use Rattle.root.specs.Root.{root_of}
 use Rattle.wave.specs.declared.Sums.{Sums}
 use Rattle.wave.specs.declared.Node.{Node}
-use Rattle.wave.specs.declared.Node.TheVariants.{Junction, Reservoir, Valve, Pump, CheckValve}
+use Rattle.wave.specs.declared.Node.TheVariants.{Junction, Reservoir, Valve, Pump}
 use Rattle.wave.specs.declared.Discharge.{Discharge}
 use Rattle.wave.specs.declared.Discharge.TheVariants.{Flow, NotFinite}
 
@@ -81,14 +80,12 @@ head_more NotFinite s = infinity64
 unfoldable pub judged : Sums → Float → Float
 judged s H = cond (finite s.b && finite s.t) H infinity64
 
--- H, judged for every kind. "Junction: H = (B - v)/T", "reservoir: H = v", the valve and the pump as above; kind 4 where it is open, "a junction without
--- draw-off".
+-- H, judged for every kind. "Junction: H = (B - v)/T", "reservoir: H = v", the valve and the pump as above.
 unfoldable pub node_head : Node → Sums → Float
 node_head (Junction v) s = judged s ((s.b ⊟ v) ⊘ s.t)
 node_head (Reservoir v) s = judged s v
 node_head (Valve v a b) s = judged s (head_less (valve_flow v a b s) s)
 node_head (Pump v a b c) s = judged s (head_more (pump_flow v a b c s) s)
-node_head (CheckValve a) s = judged s ((s.b ⊟ zero64) ⊘ s.t)
 
 -- ---- document 02, 7/12: the pump inflow, and the speed after a power failure
 
@@ -103,7 +100,6 @@ node_inflow (Junction v) s = zero64
 node_inflow (Reservoir v) s = zero64
 node_inflow (Valve v a b) s = zero64
 node_inflow (Pump v a b c) s = inflow_of (pump_flow v a b c s)
-node_inflow (CheckValve a) s = zero64
 
 -- "From the trip step on, speed is the old speed less G·((t0·α)·α + (t1·α)·q), or +0 where that is below zero", which neither -0 nor a NaN is. α and q are
 -- the old speed and the old inflow.

@@ -4,7 +4,6 @@ ghost use Rattle.fields.specs.Real.{infinity64};
 ghost use Rattle.whole_root.specs.Table.{IsTable};
 ghost use Rattle.wave.specs.Wave as wave;
 ghost use Rattle.wave.specs.Nodes as nodes;
-ghost use Rattle.wave.specs.Boundary as boundary;
 ghost use Rattle.wave.specs.Adding as adding;
 
 // A node's sums over its pipe ends: b of K and t of S (B and T of document 01).
@@ -21,27 +20,10 @@ pub struct HeadFlow {
     pub flow: f64,
 }
 
-// What a non-return valve in the line joins: one finish end, with K1 and S1, and one start end, with K2 and S2.
+// What a step works out for a node: its head, and what a pump lets in, which is +0 at other kinds.
 #[derive(Drop)]
-pub struct LineEnds {
-    pub k1: f64,
-    pub s1: f64,
-    pub k2: f64,
-    pub s2: f64,
-}
-
-// What a node gives to its pipe ends: a head, which each of them takes, or a flow that passes back through a shut
-// non-return valve, from which each works out its own head.
-#[derive(Drop)]
-pub enum Boundary {
-    Head(f64),
-    Through(f64),
-}
-
-// What a step works out for a node: what its ends go by, and what a pump lets in, which is +0 at other kinds.
-#[derive(Drop)]
-pub struct Solved {
-    pub boundary: Boundary,
+pub struct HeadInflow {
+    pub head: f64,
     pub inflow: f64,
 }
 
@@ -56,8 +38,6 @@ pub enum Node {
     Valve(f64, f64, f64),
     // speed; a, b, c
     Pump(f64, f64, f64, f64),
-    // a non-return valve in the line, whose value is always 1: a, the coefficient of its hole
-    CheckValve(f64),
 }
 
 // What flows through a valve or a pump (q of document 01), or that the argument of the root that it
@@ -275,107 +255,33 @@ fn inflow_of(q: Discharge) -> f64
     }
 }
 
-// What passes a shut non-return valve in the line, by its T and y: a flow through its hole, or plus infinity for both
-// heads.
-fn shut(roots: &[u16; 768], a: f64, t: f64, y: f64) -> Boundary
+// The node solver: H of a node, by its kind, judged for every kind; and its inflow.
+pub fn solve_node(roots: &[u16; 768], n: Node, sums: Sums) -> HeadInflow
     requires { IsTable roots.now }
-    ensures { result ≡ boundary.shut_by a t y }
-{
-    if fields::is_finite(t) {
-        let q = orifice_flow(roots, (a * a) / t, -y);
-        match q {
-            Discharge::Flow(q) => Boundary::Through(q),
-            Discharge::NotFinite => Boundary::Head(infinity()),
-        }
-    } else {
-        Boundary::Head(infinity())
-    }
-}
-
-// A non-return valve in the line: shut where y is below zero, else a junction without draw-off.
-fn check_valve(roots: &[u16; 768], a: f64, sums: Sums, ends: LineEnds) -> Boundary
-    requires { IsTable roots.now }
-    ensures { result ≡ boundary.check_valve a sums ends }
-{
-    let y = (ends.k1 * ends.s2 - ends.k2 * ends.s1) / (ends.s1 + ends.s2);
-    if y < 0.0 {
-        shut(roots, a, (ends.s1 * ends.s2) / (ends.s1 + ends.s2), y)
-    } else {
-        Boundary::Head(sums.judged((sums.b - 0.0) / sums.t))
-    }
-}
-
-// The node solver: what a node gives to its ends, by its kind, a head being judged for every kind; and its inflow. The
-// two ends of a non-return valve are read for that kind alone.
-pub fn solve_node(roots: &[u16; 768], n: Node, sums: Sums, ends: LineEnds) -> Solved
-    requires { IsTable roots.now }
-    ensures { (result.boundary ≡ boundary.node_boundary n sums ends) × (result.inflow ≡ nodes.node_inflow n sums) }
+    ensures { (result.head ≡ nodes.node_head n sums) × (result.inflow ≡ nodes.node_inflow n sums) }
 {
     match n {
         Node::Junction(draw) => {
             let head = sums.judged((sums.b - draw) / sums.t);
-            Solved {
-                boundary: Boundary::Head(head),
-                inflow: 0.0,
-            }
+            HeadInflow { head, inflow: 0.0 }
         }
         Node::Reservoir(level) => {
             let head = sums.judged(level);
-            Solved {
-                boundary: Boundary::Head(head),
-                inflow: 0.0,
-            }
+            HeadInflow { head, inflow: 0.0 }
         }
         Node::Valve(opening, a, b) => {
             let q = valve_flow(roots, opening, a, b, sums);
             let head = sums.judged(sums.head_less(q));
-            Solved {
-                boundary: Boundary::Head(head),
-                inflow: 0.0,
-            }
+            HeadInflow { head, inflow: 0.0 }
         }
         Node::Pump(speed, a, b, c) => {
             let q = pump_flow(roots, speed, a, b, c, sums);
             let head = sums.judged(sums.head_more(q));
-            Solved {
-                boundary: Boundary::Head(head),
+            HeadInflow {
+                head,
                 inflow: inflow_of(q),
             }
         }
-        Node::CheckValve(a) => {
-            let boundary = check_valve(roots, a, sums, ends);
-            Solved {
-                boundary,
-                inflow: 0.0,
-            }
-        }
-    }
-}
-
-// ---- the ends of the pipes at a node
-
-// Head and flow at a pipe's finish and at its start, from its own K and what the node gives.
-pub fn finish_from(s: f64, k: f64, b: Boundary) -> HeadFlow
-    ensures { result ≡ boundary.finish_from s k b }
-{
-    match b {
-        Boundary::Head(h) => finish_end(s, k, h),
-        Boundary::Through(q) => HeadFlow {
-            head: (k + q) / s,
-            flow: -q,
-        },
-    }
-}
-
-pub fn start_from(s: f64, k: f64, b: Boundary) -> HeadFlow
-    ensures { result ≡ boundary.start_from s k b }
-{
-    match b {
-        Boundary::Head(h) => start_end(s, k, h),
-        Boundary::Through(q) => HeadFlow {
-            head: (k - q) / s,
-            flow: -q,
-        },
     }
 }
 

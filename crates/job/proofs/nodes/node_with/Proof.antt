@@ -15,26 +15,15 @@ returns-4 : tie.Need-returns-4
 unfolding with_value kind_in
 returns-4 c =
     let arm = c.before.before.before in
+    let other = arm.match.rest in
     rw (
       ← arm.before.kind.ensures.0,
-      arm.match.keys4,
-      c.before.before.f64-at3.ensures,
-      c.before.f64-at4.ensures,
-      c.f64-at5.ensures,
-    )
-
--- a number that is none of the kinds
-returns-6 : tie.Need-returns-6
-unfolding with_value kind_in
-returns-6 c =
-    let other = c.match.rest in
-    rw (
-      ← c.before.kind.ensures.0,
-      ne_eqb _ _ other.0.0.0.0.1,
-      ne_eqb _ _ other.0.0.0.1,
       ne_eqb _ _ other.0.0.1,
       ne_eqb _ _ other.0.1,
       ne_eqb _ _ other.1,
+      c.before.before.f64-at3.ensures,
+      c.before.f64-at4.ensures,
+      c.f64-at5.ensures,
     )
 
 pub node_with_spec : {M : Type 1} → statement M
@@ -54,11 +43,7 @@ node_with_spec =
     (λ c κs. (search rules, (figures c.before.before.before.before).b))
     (λ c. search rules)
     (λ c κs. (search rules, (figures c.before.before.before.before.before).c))
-    (λ c. search rules)
-    (λ c κs. (search rules, (figures c.before.before.before).a))
     (λ c. rw (← c.before.kind.ensures.0, c.match.keys1))
     (λ c. rw (← c.before.kind.ensures.0, c.match.keys2))
     (λ c. let arm = c.before.before in rw (← arm.before.kind.ensures.0, arm.match.keys3, c.before.f64-at.ensures, c.f64-at2.ensures))
-    returns-4
-    (λ c. rw (← c.before.before.kind.ensures.0, c.before.match.keys5, c.f64-at6.ensures))
-    returns-6)
+    returns-4)
