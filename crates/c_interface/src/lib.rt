@@ -1,5 +1,7 @@
 // The calls of Vintuqay for programs in C: the same contracts as in Rattle, each answer one number.
 // docs/src/c/vintuqay.h declares them.
+#![tactic(auto)]
+
 ghost use Rattle.std.specs.Prelude.{◌≡◌, length};
 ghost use Rattle.root.specs.Root.{root_of};
 ghost use Rattle.reader.specs.Answer.{read_answer};

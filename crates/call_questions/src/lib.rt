@@ -1,4 +1,6 @@
 // The questions put to the start and to the run-on: those to a job, and 20 to 22.
+#![tactic(auto)]
+
 ghost use Rattle.std.specs.Prelude.{◌≡◌, List, ◌≤◌, length, Float};
 ghost use Rattle.job.specs.Job.{sections};
 ghost use Rattle.job.specs.Format.{job_of, node_table, node_count};
@@ -15,7 +17,7 @@ use reader::Read;
 const LIMIT: u64 = 1000000;
 
 // The lengths of the rows, in the order in which they are lent.
-#[derive(Drop)]
+#[derive(Clone, Copy)]
 pub struct Lengths {
     pub heads: usize,
     pub flows: usize,

@@ -1,5 +1,7 @@
 // What a call writes in the rows besides its steps: the initial state of the sections and of the nodes, and +0 in the
 // spare.
+#![tactic(auto)]
+
 ghost use Rattle.std.specs.Prelude.{◌≡◌, true, ℕ, ◌*◌, ◌≤◌, length, Float};
 ghost use Rattle.fields.specs.Real.{zero64};
 ghost use Rattle.loops.specs.Fill.{fill};

@@ -1,5 +1,7 @@
 // Whether a job's layout is a chain: a reservoir, pipes end to end with junctions that nothing is drawn from between
 // them, and a valve.
+#![tactic(auto)]
+
 ghost use Rattle.std.specs.Prelude.{◌≡◌, true, ℕ, ◌+◌, ◌*◌, ◌<◌, ◌≤◌, length};
 ghost use Rattle.loops.specs.Loops.{all_below};
 ghost use Rattle.job.specs.Format.{pipe_count, pipe_in, node_count, kind_in, node_in, entries_from, job_of};

@@ -1,4 +1,6 @@
 // The heads of a chain from the level L and the flow Q: a pass that reads and judges, and one that writes.
+#![tactic(auto)]
+
 ghost use Rattle.std.specs.Prelude.{◌≡◌, true, ℕ, suc, ◌+◌, ◌/◌, ◌<◌, ◌≤◌, length, Float};
 ghost use Rattle.loops.specs.Loops.{all_below};
 ghost use Rattle.loops.specs.Fill.{fill};
@@ -12,7 +14,7 @@ use job::walk::Walk;
 use pipe_layout::Laid;
 
 // The head that is carried on, and whether every head so far is finite and not below its floor.
-#[derive(Drop)]
+#[derive(Clone, Copy)]
 pub struct Judged {
     pub head: f64,
     pub fits: bool,

@@ -1,4 +1,6 @@
 // The closing line of a listing: a word, a number or two, and the newline.
+#![tactic(auto)]
+
 ghost use Rattle.std.specs.Prelude.{◌∷◌, [], ◌+◌, ◌≤◌, length};
 ghost use Rattle.listing_text.specs.Text.{decimal, printed};
 ghost use Rattle.listing_text.specs.Listing.{closing_text};

@@ -1,5 +1,7 @@
 // The commit of a pipe's inner sections, in place: the rows are overwritten upward, and what a section
 // needs of those above it is carried as CP.
+#![tactic(auto)]
+
 ghost use Rattle.std.specs.Prelude.{◌≡◌, ℕ, ◌+◌, ◌-◌, ◌<◌, ◌≤◌, length};
 ghost use Rattle.section.specs.SectionRows.{Stepped};
 ghost use Rattle.inner_sections.specs.InnerSections as pipe;
@@ -66,7 +68,7 @@ fn write_two(
 }
 
 // How many inner sections are overwritten, and the CP of the two after them.
-#[derive(Drop)]
+#[derive(Clone, Copy)]
 struct Carried {
     done: usize,
     cp: TwoCp,

@@ -1,5 +1,7 @@
 // The inner sections of a pipe, from rows cut to it; friction is its own part of table 3, floors that of
 // table 4. CP is a section's characteristic from above, CM that from below.
+#![tactic(auto)]
+
 ghost use Rattle.std.specs.Prelude.{◌≡◌, true, ◌+◌, ◌*◌, ◌<◌, ◌≤◌, length};
 ghost use Rattle.std.specs.Float.Ieee.Scale.{finite};
 ghost use Rattle.wave.specs.Wave.{from_above};
@@ -56,7 +58,7 @@ pub fn by_cp(friction: &[u8], s: f64, i: usize, cp: f64, heads: &[f64], flows: &
 }
 
 // CP of two sections, one after the other.
-#[derive(Drop)]
+#[derive(Clone, Copy)]
 pub struct TwoCp {
     pub first: f64,
     pub second: f64,

@@ -3,7 +3,7 @@ ghost use Rattle.std.specs.Prelude.{◌≡◌, ◌+◌, ◌≤◌};
 ghost use Rattle.job.specs.Walk.{begun, past};
 
 // How far a walk has come: the pipe it stands at, with the numbers of its first section and of its first reach.
-#[derive(Drop)]
+#[derive(Clone, Copy)]
 pub struct Walk {
     pub pipe: usize,
     pub section: usize,

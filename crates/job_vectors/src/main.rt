@@ -1,5 +1,7 @@
 // The reader at outside vectors: reads jobs from standard input, each after its length as four bytes,
 // lowest first, and prints the answer to each in a line.
+#![tactic(auto)]
+
 ghost use Rattle.std.specs.Prelude.{◌≤◌, ◌<◌, length};
 
 use libc::STDOUT_FILENO;

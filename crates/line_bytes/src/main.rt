@@ -1,6 +1,8 @@
 // The line call on bytes full of marks: reads cases from standard input, 42 bytes each (section,
 // head, flow, highest, lowest, eight bytes each, lowest first; how many bytes are lent; the mark),
 // and prints after each call how long the part is and all 128 bytes, those past the slice too.
+#![tactic(auto)]
+
 ghost use Rattle.std.specs.Prelude.{◌+◌, ◌≤◌, length};
 
 use libc::STDOUT_FILENO;

@@ -1,4 +1,6 @@
 // A listing, written into a lent slice: the line of a section, and the whole.
+#![tactic(auto)]
+
 ghost use Rattle.std.specs.Prelude.{◌≡◌, ◌∷◌, [], ◌++◌, ◌+◌, ◌≤◌, ◌<◌, length};
 ghost use Rattle.listing_text.specs.Text.{pattern, following};
 ghost use Rattle.listing_text.specs.Listing.{line_text, closing_text, lines_text, line_written, AtFront};

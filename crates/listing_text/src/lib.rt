@@ -1,5 +1,7 @@
 // Texts stored in a lent slice: fixed bytes, decimal numbers and bit patterns. Each call stores from a
 // place on and answers the place after the text.
+#![tactic(auto)]
+
 ghost use Rattle.std.specs.Prelude.{◌≡◌, ◌++◌, ◌+◌, ◌≤◌, ◌<◌, length};
 ghost use Rattle.std.specs.Float.{binary64};
 ghost use Rattle.std.specs.Float.Ieee.{to_bits};

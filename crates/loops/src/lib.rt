@@ -1,1 +1,2 @@
 // What loops compute, in specs/, and the laws of it, in proofs/. There is no code.
+#![tactic(auto)]

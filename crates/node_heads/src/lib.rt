@@ -1,4 +1,6 @@
 // The nodes at a step, from their values and their sums: the head of each, as its pipe ends take it, and its inflow.
+#![tactic(auto)]
+
 ghost use Rattle.std.specs.Prelude.{◌≡◌, ◌≤◌, length};
 ghost use Rattle.whole_root.specs.Table.{IsTable};
 ghost use Rattle.wave.specs.Nodes.{node_head, node_inflow};

@@ -1,4 +1,6 @@
 // Questions 10, 50, 53, 11 and 12: the table of nodes, the counts of their schedules, and the trips of the pumps.
+#![tactic(auto)]
+
 ghost use Rattle.std.specs.Prelude.{◌≡◌, true, ◌+◌, ◌*◌, ◌<◌, ◌≤◌, length};
 ghost use Rattle.fields.specs.Bytes.{f64_at};
 ghost use Rattle.fields.specs.Finite.{finite_at};

@@ -1,4 +1,6 @@
 // K at a pipe's ends, and the sums of the nodes before any K.
+#![tactic(auto)]
+
 ghost use Rattle.std.specs.Prelude.{◌≡◌, ◌<◌};
 ghost use Rattle.job.specs.Job.{friction_at};
 ghost use Rattle.job.specs.Format.{job_of, reaches_of};

@@ -1,4 +1,6 @@
 // The nodes' values at a step, and the pair that a run keeps of each node: its speed and its inflow, in two lent rows.
+#![tactic(auto)]
+
 ghost use Rattle.std.specs.Prelude.{◌≡◌, true, cond, ℕ, ◌<◌, ◌≤◌, length, leb};
 ghost use Rattle.loops.specs.Loops.{all_below};
 ghost use Rattle.wave.specs.Nodes.{rundown};
@@ -73,7 +75,7 @@ pub fn values_at(job: &[u8], step: usize, speeds: &[f64], inflows: &[f64], value
 }
 
 // The speed and the inflow of a node.
-#[derive(Drop)]
+#[derive(Clone, Copy)]
 struct Pair {
     speed: f64,
     inflow: f64,

@@ -1,5 +1,7 @@
 // The ends of the pipes at a step, from the old state alone: K at each end, the nodes' sums and heads, and the new head
 // and flow at each end, in the spare.
+#![tactic(auto)]
+
 ghost use Rattle.std.specs.Prelude.{◌≡◌, ◌+◌, ◌*◌, ◌<◌, ◌≤◌, length, drop};
 ghost use Rattle.whole_root.specs.Table.{IsTable};
 ghost use Rattle.job.specs.Format.{pipe_table, pipe_count};

@@ -1,4 +1,6 @@
 // Each pipe where it is laid, as a walk over the pipes comes to it.
+#![tactic(auto)]
+
 ghost use Rattle.std.specs.Prelude.{◌≡◌, ◌<◌, ◌≤◌};
 ghost use Rattle.job.specs.Format.{pipe_table, pipe_count};
 ghost use Rattle.job.specs.Questions.{Accepted};
@@ -7,7 +9,7 @@ ghost use Rattle.pipe_layout.specs.Layout.{laid_of, LaidAt, Walked};
 use job::walk::Walk;
 
 // A pipe with the numbers of its first section and of its first reach.
-#[derive(Drop)]
+#[derive(Clone, Copy)]
 pub struct Laid {
     pub start: usize,
     pub finish: usize,

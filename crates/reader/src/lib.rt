@@ -1,4 +1,6 @@
 // The questions put to every call that takes a job: 1 to 15, with 50 and 53 after 10.
+#![tactic(auto)]
+
 ghost use Rattle.std.specs.Prelude.{◌≡◌};
 ghost use Rattle.job.specs.Questions.{refusal};
 ghost use Rattle.reader.specs.Answer.{paper_read, read_answer};

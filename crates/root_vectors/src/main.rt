@@ -1,5 +1,7 @@
 // The root at outside vectors: reads bit patterns from standard input, eight bytes each, lowest
 // first, and prints the pattern of each root, or the refusal.
+#![tactic(auto)]
+
 use libc::STDOUT_FILENO;
 
 // A pattern of a NaN is passed over, since no operation makes a number of one.

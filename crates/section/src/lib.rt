@@ -1,5 +1,7 @@
 // One section of the lent rows: read, stored with its envelopes, and what a scan and question 22 ask of it; and a row
 // cleared.
+#![tactic(auto)]
+
 ghost use Rattle.std.specs.Prelude.{◌≡◌, true, ◌&&◌, cond, ℕ, ◌+◌, ◌*◌, ◌<◌, ◌≤◌, length};
 ghost use Rattle.std.specs.Float.Ieee.Scale.{finite};
 ghost use Rattle.fields.specs.Real.{zero64};

@@ -1,5 +1,7 @@
 // The ends of one pipe in the spare, which has four numbers a pipe: the new head and flow at its start, and those at
 // its finish.
+#![tactic(auto)]
+
 ghost use Rattle.std.specs.Prelude.{◌≡◌, ◌+◌, ◌*◌, ◌<◌, ◌≤◌, length};
 ghost use Rattle.pipe_layout.specs.Layout.{laid_of};
 ghost use Rattle.spare_ends.specs.Spare.{end_in, start_by, finish_by, with_ends};

@@ -1,4 +1,6 @@
 // The check before a step: which section, if any, stops the run. Nothing is written.
+#![tactic(auto)]
+
 ghost use Rattle.std.specs.Prelude.{◌≡◌, ℕ, suc, ◌+◌, ◌-◌, ◌*◌, ◌<◌, ◌≤◌, eqb, length};
 ghost use Rattle.loops.specs.Loops.{all_below, first_below};
 ghost use Rattle.wave.specs.declared.Node.{Node};

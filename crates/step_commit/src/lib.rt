@@ -1,4 +1,6 @@
 // The commit of a step, in place, pipe by pipe: the inner sections upward, then both ends out of the spare.
+#![tactic(auto)]
+
 ghost use Rattle.std.specs.Prelude.{ℕ, ◌+◌, ◌-◌, ◌*◌, ◌<◌, ◌≤◌, length};
 ghost use Rattle.wave.specs.declared.Node.{Node};
 ghost use Rattle.job.specs.Job.{sections};

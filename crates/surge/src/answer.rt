@@ -4,7 +4,7 @@
 ghost use Rattle.std.specs.Prelude.{◌≡◌};
 ghost use Rattle.surge.specs.Answers.{paper_answer};
 
-#[derive(Drop)]
+#[derive(Clone, Copy)]
 pub enum Answer {
     Refused(usize),
     Done(u64),
@@ -14,7 +14,7 @@ pub enum Answer {
 
 // Document 01's number and values of an answer: 0, a question's number, 40 or 41; the steps done in
 // all; the section of a stop.
-#[derive(Drop)]
+#[derive(Clone, Copy)]
 pub struct Numbers {
     pub number: usize,
     pub steps: u64,

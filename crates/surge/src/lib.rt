@@ -1,4 +1,6 @@
 // The start and the run-on, over lent rows.
+#![tactic(auto)]
+
 ghost use Rattle.std.specs.Prelude.{◌≡◌, ◌+◌, ◌≤◌};
 ghost use Rattle.job.specs.Job.{sections};
 ghost use Rattle.job.specs.Format.{job_of};

@@ -1,4 +1,6 @@
 // surgelist: reads one job from standard input, runs its steps and prints the listing.
+#![tactic(auto)]
+
 mod input;
 mod listing_of;
 

@@ -1,4 +1,6 @@
 // table_afresh: prints the table that starts a root, entries 256 to 1,023, one decimal number a line.
+#![tactic(auto)]
+
 mod afresh;
 
 use libc::{STDERR_FILENO, STDOUT_FILENO};

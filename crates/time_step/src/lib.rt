@@ -1,6 +1,8 @@
 // A step over all pipes, in place, and a run of steps. The new ends of the pipes are worked out into the spare; a check
 // that only reads looks for a section that stops the run; a commit overwrites heads and flows and takes the new heads
 // into the envelopes; then the pairs of the nodes are written.
+#![tactic(auto)]
+
 ghost use Rattle.std.specs.Prelude.{◌+◌, ◌≤◌};
 ghost use Rattle.recurrence.specs.Slices.{lent, before, after};
 ghost use Rattle.time_step.specs.StepsInRows.{Ready, StepsInRows};
@@ -11,7 +13,7 @@ use one_step::one_step;
 use section::Scan;
 
 // How a run ended: the steps done in all, and what stopped it.
-#[derive(Drop)]
+#[derive(Clone, Copy)]
 pub struct Ended {
     pub steps: u64,
     pub found: Scan,

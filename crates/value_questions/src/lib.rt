@@ -1,4 +1,6 @@
 // Questions 13 to 15: the tables of f64 numbers.
+#![tactic(auto)]
+
 ghost use Rattle.std.specs.Prelude.{◌≡◌, true, cond, ◌+◌, ◌*◌, ◌≤◌, length, eqb};
 ghost use Rattle.loops.specs.Loops.{all_below};
 ghost use Rattle.job.specs.Format.{entry_in};

@@ -1,4 +1,6 @@
 // The valve of a chain, set for a discharge.
+#![tactic(auto)]
+
 ghost use Rattle.std.specs.Prelude.{◌≡◌, true, cond, ◌≤◌, length};
 ghost use Rattle.job.specs.Job.{sections};
 ghost use Rattle.job.specs.Format.{job_of};

@@ -1,4 +1,6 @@
 // The wave equations along a reach, and the nodes. Each function equals its definition in specs/ bit for bit.
+#![tactic(auto)]
+
 ghost use Rattle.std.specs.Prelude.{◌≡◌};
 ghost use Rattle.fields.specs.Real.{infinity64};
 ghost use Rattle.whole_root.specs.Table.{IsTable};
@@ -7,28 +9,28 @@ ghost use Rattle.wave.specs.Nodes as nodes;
 ghost use Rattle.wave.specs.Adding as adding;
 
 // A node's sums over its pipe ends: b of K and t of S (B and T of document 01).
-#[derive(Drop)]
+#[derive(Clone, Copy)]
 pub struct Sums {
     pub b: f64,
     pub t: f64,
 }
 
 // Head and flow at a section.
-#[derive(Drop)]
+#[derive(Clone, Copy)]
 pub struct HeadFlow {
     pub head: f64,
     pub flow: f64,
 }
 
 // What a step works out for a node: its head, and what a pump lets in, which is +0 at other kinds.
-#[derive(Drop)]
+#[derive(Clone, Copy)]
 pub struct HeadInflow {
     pub head: f64,
     pub inflow: f64,
 }
 
 // A node at a step, carrying its value at the step first and then its own figures.
-#[derive(Drop)]
+#[derive(Clone, Copy)]
 pub enum Node {
     // draw-off
     Junction(f64),
@@ -42,7 +44,7 @@ pub enum Node {
 
 // What flows through a valve or a pump (q of document 01), or that the argument of the root that it
 // takes is not finite.
-#[derive(Drop)]
+#[derive(Clone, Copy)]
 pub enum Discharge {
     Flow(f64),
     NotFinite,

@@ -1,4 +1,6 @@
 // The root of a whole number: its first binary digits from a table, the others one by one.
+#![tactic(auto)]
+
 ghost use Rattle.std.specs.Prelude.{◌≡◌, cond, ◌+◌, ◌*◌, ◌^◌, ◌≤◌, ◌<◌, leb};
 ghost use Rattle.whole_root.specs.WholeRoot.{IsWholeRoot};
 ghost use Rattle.whole_root.specs.Table.{IsTable};
@@ -7,7 +9,7 @@ ghost use Rattle.whole_root.specs.Digits.{LeavesRest, FirstDigits};
 pub mod table;
 
 // A whole number's root and what its square leaves.
-#[derive(Drop)]
+#[derive(Clone, Copy)]
 pub struct Whole {
     pub root: u64,
     pub rest: u64,
