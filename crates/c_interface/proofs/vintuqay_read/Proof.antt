@@ -4,13 +4,13 @@ use Rattle.c_interface.specs.Packed.{packed_read}
 use Rattle.c_interface.proofs.vintuqay_read.Statement.{statement}
 use Rattle.c_interface.proofs.vintuqay_read.Tie as tie
 
-refused : tie.Need-returns
+refused : tie.Need-returns-in-Refused
 unfolding packed_read
-refused c = rw (← c.before.before.before.before.read.ensures, c.before.before.read2.given.1) c.pack.ensures
+refused c = rw (← c.before.before.before.before.read-read.ensures, c.before.before.in-Refused.is) c.pack.ensures
 
-accepted : tie.Need-returns-2
+accepted : tie.Need-returns-in-Accepted
 unfolding packed_read
-accepted c = rw (← c.before.before.before.before.read.ensures, c.before.before.read3.given.1) c.pack2.ensures
+accepted c = rw (← c.before.before.before.before.read-read.ensures, c.before.before.in-Accepted.is) c.pack-in-Accepted.ensures
 
 pub vintuqay_read_spec : {M : Type 1} → statement M
 vintuqay_read_spec =

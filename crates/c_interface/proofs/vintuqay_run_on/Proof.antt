@@ -9,21 +9,21 @@ use Rattle.c_interface.proofs.vintuqay_run_on.Statement.{statement}
 use Rattle.c_interface.proofs.vintuqay_run_on.Tie as tie
 
 -- what the call leaves and answers is the definition's, for these m and N: said by itself, so that of another number the prover tells both
-abbrev entry : tie.After-run-on → tie.Start
-entry c = let lent : tie.After-slice-known7 = c.before.before.before.before.before.before.before.before in lent.before.before.before.before.before.before.before.before
+abbrev entry : tie.After-run_on → tie.Start
+entry c = let lent : tie.After-slice_known-7-1 = c.before.before.before.before.before.before.before.before in lent.before.before.before.before.before.before.before.before
 
-ran : (c : tie.After-run-on)
+ran : (c : tie.After-run_on)
     → let a = (entry c).args in
     let l = c.run_on.new.1.1.1 in
     call_leaves (gathered l.0 l.1.0 l.1.1.0 l.1.1.1.0 l.1.1.1.1.0 l.1.1.1.1.1.0 l.1.1.1.1.1.1.0) c.run_on.result
-    ≡ run_on_call a.job.now a.done a.count (lent a.heads a.flows a.highest a.lowest a.speeds a.inflows a.spare)
+    ≡ run_on_call a.job.now a.done a.count (lent a.heads-1 a.flows-1 a.highest-1 a.lowest-1 a.speeds-1 a.inflows-1 a.spare-1)
 ran c = c.run_on.ensures
 
 returns : tie.Need-returns
 returns c =
-    let known : tie.After-slice-known12 = c.before.before.before.before.before in
-    let called : tie.After-run-on = known.before.before.before.before.before.before.before.before.before.before in
-    packed_call c.pack-answer.ensures (ran called)
+    let known : tie.After-slice_known-12-1 = c.before.before.before.before.before in
+    let called : tie.After-run_on = known.before.before.before.before.before.before.before.before.before.before in
+    packed_call c.pack_answer.ensures (ran called)
 
 pub vintuqay_run_on_spec : {M : Type 1} → statement M
 vintuqay_run_on_spec =

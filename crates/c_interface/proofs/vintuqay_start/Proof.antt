@@ -6,9 +6,9 @@ use Rattle.c_interface.proofs.vintuqay_start.Tie as tie
 
 returns : tie.Need-returns
 returns c =
-    let known : tie.After-slice-known12 = c.before.before.before.before.before in
+    let known : tie.After-slice_known-12-1 = c.before.before.before.before.before in
     let called : tie.After-start = known.before.before.before.before.before.before.before.before.before.before in
-    packed_call c.pack-answer.ensures called.start.ensures
+    packed_call c.pack_answer.ensures called.start.ensures
 
 pub vintuqay_start_spec : {M : Type 1} → statement M
 vintuqay_start_spec =

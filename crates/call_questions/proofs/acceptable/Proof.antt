@@ -17,15 +17,15 @@ use Rattle.section.specs.Faults.{acceptable_in}
 use Rattle.section.proofs.RecurrenceTies.{acceptable_is}
 use Rattle.pipe_layout.proofs.Acceptance.{pairs_accepted, floor_read}
 use Rattle.node_values.specs.Pairs.{pair_in}
-use Rattle.call_questions.proofs.acceptable.Statement.{statement}
-use Rattle.call_questions.proofs.acceptable.Tie as tie
+use Rattle.call_questions.proofs.acceptable-points.Statement.{statement}
+use Rattle.call_questions.proofs.acceptable-points.Tie as tie
 
 -- the function's entry, and where the nodes are counted
-abbrev entry : tie.After-shared-slice-known7 → tie.Start
+abbrev entry : tie.After-shared_slice_known-7-1 → tie.Start
 entry c = c.before.before.before.before.before.before.before
 
-abbrev start : tie.After-node-count → tie.Start
-start c = let table : tie.After-initial = c.before in entry table.before
+abbrev start : tie.After-node_count-nodes → tie.Start
+start c = let table : tie.After-initial-initial = c.before in entry table.before
 
 -- question 22 of the rows, by what the code counts and reads
 judged :
@@ -41,22 +41,22 @@ judged job ok heads flows highest lowest speeds inflows e table sections nodes p
 -- It stands before what the calls ask, and both tests are spelled out, so that of another row, count or test the prover tells this first.
 returns : tie.Need-returns
 returns c e =
-    let points : tie.After-acceptable = c.before in
-    let counted : tie.After-node-count = points.before in
+    let points : tie.After-acceptable-points = c.before in
+    let counted : tie.After-node_count-nodes = points.before in
     let s = start counted in
     let a = s.args in
     let j = job_of a.job.now in
     let rows = gathered a.heads.now a.flows.now a.highest.now a.lowest.now a.speeds.now a.inflows.now e in
-    let pairs : c.finite-pairs.result ≡ all_below (λ (y : ℕ). finite_drive (pair_in a.speeds.now a.inflows.now y)) counted.node-count.result =
-    c.finite-pairs.ensures in
-    let both : points.acceptable.result && c.finite-pairs.result ≡ acceptable j (state_in j rows) =
-    judged _ s.pre.0.0 _ _ _ _ _ _ e counted.before.initial.ensures s.pre.0.1 counted.node-count.ensures points.acceptable.ensures pairs in
+    let pairs : c.finite_pairs-pairs.result ≡ all_below (λ (y : ℕ). finite_drive (pair_in a.speeds.now a.inflows.now y)) counted.node_count-nodes.result =
+    c.finite_pairs-pairs.ensures in
+    let both : points.acceptable-points.result && c.finite_pairs-pairs.result ≡ acceptable j (state_in j rows) =
+    judged _ s.pre.0.0 _ _ _ _ _ _ e counted.before.initial-initial.ensures s.pre.0.1 counted.node_count-nodes.ensures points.acceptable-points.ensures pairs in
     both
 
-acceptable-requires : tie.Need-acceptable-requires
+acceptable-requires : tie.Need-acceptable-points-requires
 acceptable-requires c κs =
     let pre = (start c).requires in
-    rw c.before.initial.ensures (
+    rw c.before.initial-initial.ensures (
       record {
         table_long = omega (arith, initial_length _ pre.0.0, pre.0.1);
         table_fits = initial_fits_lem _ pre.0.0;
@@ -66,10 +66,10 @@ acceptable-requires c κs =
       (pre.1.0.2, pre.1.0.3),
     )
 
-finite-pairs-requires : tie.Need-finite-pairs-requires
+finite-pairs-requires : tie.Need-finite_pairs-pairs-requires
 finite-pairs-requires c κs =
-    let counted : tie.After-node-count = c.before in
-    rw counted.node-count.ensures (start counted).requires.1.1
+    let counted : tie.After-node_count-nodes = c.before in
+    rw counted.node_count-nodes.ensures (start counted).requires.1.1
 
 pub acceptable_spec : {M : Type 1} → statement M
 acceptable_spec =

@@ -6,10 +6,10 @@ use Rattle.call_questions.proofs.enough.Tie as tie
 
 returns : tie.Need-returns
 returns c =
-    let pipes : tie.After-pipe-count = c.before.before.before.before.before.before.before in
-    let nodes : tie.After-node-count = pipes.before in
+    let pipes : tie.After-pipe_count-ends = c.before.before.before.before.before.before.before in
+    let nodes : tie.After-node_count-nodes = pipes.before in
     let s : tie.Start = nodes.before.before in
-    enough_asked s.args.job.now s.requires.0 s.requires.1 nodes.node-count.ensures pipes.pipe-count.ensures.0 s.args.l
+    enough_asked s.args.job.now s.requires.0 s.requires.1 nodes.node_count-nodes.ensures pipes.pipe_count-ends.ensures.0 s.args.l
 
 pub enough_spec : {M : Type 1} → statement M
 enough_spec =

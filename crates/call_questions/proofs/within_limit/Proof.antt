@@ -4,13 +4,13 @@ use Rattle.recurrence.specs.Run.{within_limit}
 use Rattle.call_questions.proofs.within_limit.Statement.{statement}
 use Rattle.call_questions.proofs.within_limit.Tie as tie
 
-returns : tie.Need-returns
+returns : tie.Need-returns-then-done-le-LIMIT
 unfolding within_limit
-returns c = rw (le-leb _ _ c.if1.true)
+returns c = rw (le-leb _ _ c.if-done-le-LIMIT.true)
 
-returns-2 : tie.Need-returns-2
+returns-2 : tie.Need-returns-else-done-le-LIMIT
 unfolding within_limit
-returns-2 c = rw (lt-leb _ _ c.if1.false)
+returns-2 c = rw (lt-leb _ _ c.if-done-le-LIMIT.false)
 
 pub within_limit_spec : {M : Type 1} → statement M
 within_limit_spec = tie.close (tie.spec returns returns-2)

@@ -8,17 +8,17 @@ use borrow.Author.Rules.{rules}
 use Rattle.call_rows.proofs.clear_spare.Statement.{statement}
 use Rattle.call_rows.proofs.clear_spare.Tie as tie
 
-clear-row-requires : tie.Need-clear-row-requires
-clear-row-requires c κs = omega (arith, c.before.pipe-count.ensures.0, c.before.before.before.before.requires.1)
+clear-row-requires : tie.Need-clear_row-requires
+clear-row-requires c κs = omega (arith, c.before.pipe_count-used.ensures.0, c.before.before.before.before.requires.1)
 
 returns : tie.Need-returns
 returns c =
     let cleared = c.before.before in
     let counted = cleared.before.before in
     let start : tie.Start = counted.before.before.before in
-    let filled : cleared.clear-row.new.1.0 ≡ fill (λ (s : ℕ). zero64) start.args.spare.now 0 (counted.pipe-count.result * 4) =
-    cleared.clear-row.ensures in
-    rw counted.pipe-count.ensures.0 at filled
+    let filled : cleared.clear_row.new.1.0 ≡ fill (λ (s : ℕ). zero64) start.args.spare-1.now 0 (counted.pipe_count-used.result * 4) =
+    cleared.clear_row.ensures in
+    rw counted.pipe_count-used.ensures.0 at filled
 
 pub clear_spare_spec : {M : Type 1} → statement M
 clear_spare_spec =

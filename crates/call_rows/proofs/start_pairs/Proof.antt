@@ -28,32 +28,32 @@ start_pair job ok values e y h =
     rw (value, none)
 
 -- the function's entry, and where the schedules are read
-abbrev start : tie.After-scheduled-at → tie.Start
+abbrev start : tie.After-scheduled_at → tie.Start
 start c = c.before.before.before.before.before
 
-abbrev read : tie.After-write-pairs-arg2 → tie.After-scheduled-at
+abbrev read : tie.After-write_pairs-arg-2-1 → tie.After-scheduled_at
 read c = c.before.before.before.before.before
 
-scheduled-at-requires : tie.Need-scheduled-at-requires
+scheduled-at-requires : tie.Need-scheduled_at-requires
 scheduled-at-requires c κs =
     let ok = (let s : tie.Start = c.before.before.before.before in s.requires.0) in
     (ok, search rules, few_nodes _ ok)
 
-write-pairs-requires : tie.Need-write-pairs-requires
+write-pairs-requires : tie.Need-write_pairs-requires
 write-pairs-requires c κs =
     let from = read c in
     let pre = (start from).pre in
-    ((pre.0, from.scheduled-at.ensures.long, few_nodes _ pre.0), pre.1)
+    ((pre.0, from.scheduled_at.ensures.long, few_nodes _ pre.0), pre.1)
 
 returns : tie.Need-returns
 returns c =
-    let stored : tie.After-write-pairs = c.before.before.before.before in
+    let stored : tie.After-write_pairs = c.before.before.before.before in
     let from = read stored.before in
-    let pair = start_pair _ (start from).pre.0 _ from.scheduled-at.ensures in
+    let pair = start_pair _ (start from).pre.0 _ from.scheduled_at.ensures in
     let a = (start from).args in
-    let values = from.scheduled-at.last.1.1.0 in
-    let left = stored.write-pairs.new.1.1.1 in
-    let is : PairsLeft a.job.now values (replicate 32 zero64) a.speeds.now a.inflows.now left.0 left.1.0 = stored.write-pairs.ensures in (
+    let values = from.scheduled_at.last.1.1.0 in
+    let left = stored.write_pairs.new.1.1.1 in
+    let is : PairsLeft a.job.now values (replicate 32 zero64) a.speeds-1.now a.inflows-1.now left.0 left.1.0 = stored.write_pairs.ensures in (
       is.0 ∙ fill_cong _ _ _ 0 _ (λ y h. ap (λ (d : Drive). d.speed) (pair y h)),
       is.1 ∙ fill_cong _ _ _ 0 _ (λ y h. ap (λ (d : Drive). d.inflow) (pair y h)),
     )

@@ -9,26 +9,26 @@ use Rattle.call_rows.proofs.write_start.Statement.{statement}
 use Rattle.call_rows.proofs.write_start.Tie as tie
 
 -- the function's entry
-abbrev entry : tie.After-slice-known4 → tie.Start
+abbrev entry : tie.After-slice_known-4-1 → tie.Start
 entry c = c.before.before.before.before.before
 
-write-initial-requires : tie.Need-write-initial-requires
+write-initial-requires : tie.Need-write_initial-requires
 write-initial-requires c κs =
-    let table : tie.After-initial = c.before.before.before.before in
+    let table : tie.After-initial-initial = c.before.before.before.before in
     let pre = (entry table.before).requires in
     let long = pre.1 in (
-      rw table.initial.ensures (initial_fits_lem _ pre.0.0, omega (arith, initial_length _ pre.0.0, pre.0.1)),
+      rw table.initial-initial.ensures (initial_fits_lem _ pre.0.0, omega (arith, initial_length _ pre.0.0, pre.0.1)),
       (omega (arith, long.0), omega (arith, long.1), omega (arith, long.2), omega (arith, long.3)),
     )
 
 returns : tie.Need-returns
 unfolding initial_at job_of
 returns c =
-    let flows : tie.After-flows = c.before.before.before.before.before in
-    let written : tie.After-write-initial = flows.before.before.before in
-    let table : tie.After-initial = written.before.before.before.before.before in
-    let t = table.initial.ensures in
-    let w = written.write-initial.ensures in
+    let flows : tie.After-flows-1 = c.before.before.before.before.before in
+    let written : tie.After-write_initial = flows.before.before.before in
+    let table : tie.After-initial-initial = written.before.before.before.before.before in
+    let t = table.initial-initial.ensures in
+    let w = written.write_initial.ensures in
     (rw t at w.0, rw t at w.1, rw t at w.2, rw t at w.3)
 
 pub write_start_spec : {M : Type 1} → statement M

@@ -14,53 +14,53 @@ use Rattle.chain.proofs.is_chain.Statement.{statement}
 use Rattle.chain.proofs.is_chain.Tie as tie
 
 -- where the tables have been handed out, and the function's entry
-abbrev start : tie.After-schedules → tie.Start
+abbrev start : tie.After-schedules-schedules → tie.Start
 start c = c.before.before.before.before.before
 
 -- there is a node more than pipes
 node_more :
-    (c : tie.Else1)
+    (c : tie.Else-nodes-last)
     → let job = (start c.before).args.job.now in node_count (node_table job) ≡ pipe_count (pipe_table job) + 1
 node_more c =
-    let nodes : tie.After-nodes = c.before.before.before in
-    rw (nodes.nodes.ensures, nodes.before.pipes.ensures) at c.if1.false
+    let nodes : tie.After-nodes-nodes = c.before.before.before in
+    rw (nodes.nodes-nodes.ensures, nodes.before.pipes-pipes.ensures) at c.if-nodes-last.false
 
 -- what the walk over the pipes has found
 pipes_asked :
-    (c : tie.After-pipes-fit)
+    (c : tie.After-pipes_fit)
     → let job = (start c.before.before).args.job.now in
-    c.pipes-fit.result ≡ all_below (λ (p : ℕ). pipe_fits p (pipe_in (pipe_table job) p)) (pipe_count (pipe_table job))
+    c.pipes_fit.result ≡ all_below (λ (p : ℕ). pipe_fits p (pipe_in (pipe_table job) p)) (pipe_count (pipe_table job))
 pipes_asked c =
-    let pipes : tie.After-pipes = c.before.before.before.before.before in
-    rw pipes.pipes.ensures at c.pipes-fit.ensures
+    let pipes : tie.After-pipes-pipes = c.before.before.before.before.before in
+    rw pipes.pipes-pipes.ensures at c.pipes_fit.ensures
 
-returns : tie.Need-returns
+returns : tie.Need-returns-then-nodes-last
 returns c =
-    let nodes : tie.After-nodes = c.before.before.before in
-    other_count _ (start c.before).requires (rw (nodes.nodes.ensures, nodes.before.pipes.ensures) at c.if1.true)
+    let nodes : tie.After-nodes-nodes = c.before.before.before in
+    other_count _ (start c.before).requires (rw (nodes.nodes-nodes.ensures, nodes.before.pipes-pipes.ensures) at c.if-nodes-last.true)
 
-returns-2 : tie.Need-returns-2
+returns-2 : tie.Need-returns-then-not-pipes_fit
 returns-2 c =
-    let asked : tie.After-pipes-fit = c.before in
-    pipe_no _ (start asked.before.before).requires (node_more asked.before) (is_no (pipes_asked asked) c.if2.true)
+    let asked : tie.After-pipes_fit = c.before in
+    pipe_no _ (start asked.before.before).requires (node_more asked.before) (is_no (pipes_asked asked) c.if-not-pipes_fit.true)
 
-nodes-fit-requires : tie.Need-nodes-fit-requires
+nodes-fit-requires : tie.Need-nodes_fit-requires
 nodes-fit-requires c κs =
-    let tables : tie.After-schedules = c.before.before.before in
-    let nodes : tie.After-nodes = tables.before.before in
+    let tables : tie.After-schedules-schedules = c.before.before.before in
+    let nodes : tie.After-nodes-nodes = tables.before.before in
     let ok = (start tables).requires in (
-      nodes_right _ nodes.nodes.ensures tables.before.counts.ensures tables.schedules.ensures ok,
-      rw nodes.nodes.ensures (omega (arith, (node_limits _ ok).1, nodes_length _ ok)),
+      nodes_right _ nodes.nodes-nodes.ensures tables.before.counts-counts.ensures tables.schedules-schedules.ensures ok,
+      rw nodes.nodes-nodes.ensures (omega (arith, (node_limits _ ok).1, nodes_length _ ok)),
     )
 
-returns-3 : tie.Need-returns-3
+returns-3 : tie.Need-returns
 returns-3 c =
-    let passed : tie.Else2 = c.before in
-    let asked : tie.After-pipes-fit = passed.before in
-    let tables : tie.After-schedules = asked.before.before in
-    let nodes : tie.After-nodes = tables.before.before in
-    (rw (nodes.before.pipes.ensures, nodes.nodes.ensures, tables.before.counts.ensures, tables.schedules.ensures) at c.nodes-fit.ensures)
-    ∙ by_nodes _ (start tables).requires (node_more asked.before) (is_yes (pipes_asked asked) passed.if2.false)
+    let passed : tie.Else-not-pipes_fit = c.before in
+    let asked : tie.After-pipes_fit = passed.before in
+    let tables : tie.After-schedules-schedules = asked.before.before in
+    let nodes : tie.After-nodes-nodes = tables.before.before in
+    (rw (nodes.before.pipes-pipes.ensures, nodes.nodes-nodes.ensures, tables.before.counts-counts.ensures, tables.schedules-schedules.ensures) at c.nodes_fit.ensures)
+    ∙ by_nodes _ (start tables).requires (node_more asked.before) (is_yes (pipes_asked asked) passed.if-not-pipes_fit.false)
 
 pub is_chain_spec : {M : Type 1} → statement M
 is_chain_spec =

@@ -12,45 +12,45 @@ use Rattle.chain.specs.Chain.{node_fits}
 use Rattle.chain.proofs.nodes_fit.Statement.{statement}
 use Rattle.chain.proofs.nodes_fit.Tie as tie
 
-abbrev invariant-loop : tie.invariant-loop
+abbrev invariant-loop : tie.invariant-loop-node
 invariant-loop nodes counts schedules last n place₀ node₀ place node =
     SumBefore nodes counts node place × Passing (λ i. node_fits last i (node_in nodes counts schedules i)) n node
 
-abbrev decreases-loop : tie.decreases-loop
+abbrev decreases-loop : tie.decreases-loop-node
 decreases-loop nodes counts schedules last n place₀ node₀ place node = n - node
 
-abbrev start : tie.At-loop invariant-loop decreases-loop → tie.Start invariant-loop decreases-loop
+abbrev start : tie.At-loop-node invariant-loop decreases-loop → tie.Start invariant-loop decreases-loop
 start c = c.before.before.before.before
 
-abbrev turn : tie.After-node-fits invariant-loop decreases-loop → tie.In-loop invariant-loop decreases-loop
+abbrev turn : tie.After-node_fits invariant-loop decreases-loop → tie.In-loop-node invariant-loop decreases-loop
 turn c = c.before.before
 
 asked :
-    (c : tie.After-node-fits invariant-loop decreases-loop)
-    → let loop : tie.At-loop invariant-loop decreases-loop = (turn c).before in
+    (c : tie.After-node_fits invariant-loop decreases-loop)
+    → let loop : tie.At-loop-node invariant-loop decreases-loop = (turn c).before in
     let a = (start loop).args in
-    c.node-fits.result ≡ node_fits a.last loop.loop.node (node_in a.nodes.now a.counts.now a.schedules.now loop.loop.node)
+    c.node_fits.result ≡ node_fits a.last loop.loop-node.node (node_in a.nodes.now a.counts.now a.schedules.now loop.loop-node.node)
 unfolding node_in
-asked c = rw (← c.before.schedule-count.ensures.0, ← (turn c).before.loop.invariant.0.sum) c.node-fits.ensures
+asked c = rw (← c.before.schedule_count-count.ensures.0, ← (turn c).before.loop-node.invariant.0.sum) c.node_fits.ensures
 
 -- It stands before the needs of the turn's calls, so that of a wrong sum the prover tells this first.
-loop-again : tie.Need-loop-preserved invariant-loop decreases-loop
+loop-again : tie.Need-loop-node-preserved invariant-loop decreases-loop
 loop-again c =
-    let fits : tie.After-node-fits invariant-loop decreases-loop = c.before in
-    let count = fits.before.schedule-count.ensures in
-    let inv = (turn fits).before.loop.invariant in (
+    let fits : tie.After-node_fits invariant-loop decreases-loop = c.before in
+    let count = fits.before.schedule_count-count.ensures in
+    let inv = (turn fits).before.loop-node.invariant in (
       sum_before_more _ _ inv.0 count.0 count.1,
-      passing_step _ inv.1 (omega arith) (asked fits) c.if1.false,
+      passing_step _ inv.1 (omega arith) (asked fits) c.if-not-node_fits.false,
     )
 
-node-fits-requires : tie.Need-node-fits-requires invariant-loop decreases-loop
+node-fits-requires : tie.Need-node_fits-requires invariant-loop decreases-loop
 node-fits-requires c κs =
-    let here : tie.In-loop invariant-loop decreases-loop = c.before in
+    let here : tie.In-loop-node invariant-loop decreases-loop = c.before in
     let right = (start here.before).pre.0.entries in
-    let sum = here.before.loop.invariant.0.sum in (
-      here.loop-test.true,
-      entries_within _ _ _ right here.loop-test.true sum c.schedule-count.ensures.0,
-      entries_finite _ _ _ right here.loop-test.true sum c.schedule-count.ensures.0,
+    let sum = here.before.loop-node.invariant.0.sum in (
+      here.loop-node-test.true,
+      entries_within _ _ _ right here.loop-node-test.true sum c.schedule_count-count.ensures.0,
+      entries_finite _ _ _ right here.loop-node-test.true sum c.schedule_count-count.ensures.0,
     )
 
 pub nodes_fit_spec : {M : Type 1} → statement M
@@ -60,11 +60,11 @@ nodes_fit_spec =
     invariant-loop
     decreases-loop
     (λ c. (sum_before_none _ _, passing_none _))
-    (λ c κs. (c.loop-test.true, (start c.before).pre.0.counted))
+    (λ c κs. (c.loop-node-test.true, (start c.before).pre.0.counted))
     node-fits-requires
-    (λ c. passing_stop _ (turn c.before).loop-test.taken (asked c.before) c.if1.true)
+    (λ c. passing_stop _ (turn c.before).loop-node-test.taken (asked c.before) c.if-not-node_fits.true)
     (λ c. search rules)
     (λ c. search rules)
     (λ c. search rules)
     loop-again
-    (λ c. passing_done _ c.before.loop.invariant.1 c.loop-test.false))
+    (λ c. passing_done _ c.before.loop-node.invariant.1 c.loop-node-test.false))

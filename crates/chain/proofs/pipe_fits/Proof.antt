@@ -12,7 +12,7 @@ returns : tie.Need-returns
 unfolding pipe_fits
 returns c =
     let p = c.before.before.before.args.p in
-    ap₂ (λ (start finish : ℕ). eqb start p && eqb finish (p + 1)) c.before.start.ensures.0 c.finish.ensures.0
+    ap₂ (λ (start finish : ℕ). eqb start p && eqb finish (p + 1)) c.before.start-start.ensures.0 c.finish-finish.ensures.0
 
 pub pipe_fits_spec : {M : Type 1} → statement M
 pipe_fits_spec = tie.close (tie.spec (λ c κs. search rules) (λ c κs. search rules) (λ c. search rules) returns)

@@ -6,7 +6,7 @@ use Rattle.chain_heads.proofs.head_after.Tie as tie
 
 returns : tie.Need-returns
 unfolding head_after
-returns c = rw c.magnitude.ensures
+returns c = rw c.magnitude-z.ensures
 
 pub head_after_spec : {M : Type 1} → statement M
 head_after_spec = tie.close (tie.spec (λ c κs. search rules) returns)

@@ -6,14 +6,14 @@ use Rattle.setting.specs.Setting.{head_fits}
 use Rattle.chain_heads.proofs.head_fits.Statement.{statement}
 use Rattle.chain_heads.proofs.head_fits.Tie as tie
 
-floor-at-requires : tie.Need-floor-at-requires
+floor-at-requires : tie.Need-floor_at-floor-requires
 floor-at-requires c κs = let pre = c.before.requires in (omega (arith, pre.1), (section_finite _ pre.0 _ pre.1).floor)
 
 returns : tie.Need-returns
 unfolding head_fits
 returns c =
-    let floor : tie.After-floor-at = c.before in
-    rw (c.is_finite.ensures, floor.floor-at.ensures, section_is _ _ floor.before.before.requires.1)
+    let floor : tie.After-floor_at-floor = c.before in
+    rw (c.is_finite.ensures, floor.floor_at-floor.ensures, section_is _ _ floor.before.before.requires.1)
 
 pub head_fits_spec : {M : Type 1} → statement M
 head_fits_spec = tie.close (tie.spec floor-at-requires (λ c κs. search rules) returns)

@@ -10,9 +10,9 @@ use Rattle.chain_heads.proofs.head_past.Tie as tie
 returns : tie.Need-returns
 returns c =
     let a = c.before.before.before.before.args in
-    c.head-after.ensures ∙ ap (λ (r : Float). head_after a.l.s r a.q a.h) c.before.r-at.ensures
+    c.head_after.ensures ∙ ap (λ (r : Float). head_after a.l.s r a.q a.h) c.before.r_at.ensures
 
-r-at-requires : tie.Need-r-at-requires
+r-at-requires : tie.Need-r_at-requires
 r-at-requires c κs = c.before.before.requires
 
 pub head_past_spec : {M : Type 1} → statement M

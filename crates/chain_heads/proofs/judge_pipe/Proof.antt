@@ -12,47 +12,47 @@ use Rattle.chain_heads.proofs.HeadLaws.{along_none, along_more, asked_more}
 use Rattle.chain_heads.proofs.judge_pipe.Statement.{statement}
 use Rattle.chain_heads.proofs.judge_pipe.Tie as tie
 
-abbrev invariant-loop : tie.invariant-loop
+abbrev invariant-loop : tie.invariant-loop-i
 invariant-loop friction initial l q h head₀ fits₀ i₀ head fits i =
     (fits ≡ all_below (λ k. head_fits (initial_of initial (l.first_section + k)).floor (head_along l.s (λ k. r_of friction (l.first_reach + k)) q h k)) i)
     × (head ≡ head_along l.s (λ k. r_of friction (l.first_reach + k)) q h i) × (i ≤ l.reaches)
 
-abbrev decreases-loop : tie.decreases-loop
+abbrev decreases-loop : tie.decreases-loop-i
 decreases-loop friction initial l q h head₀ fits₀ i₀ head fits i = l.reaches - i
 
-abbrev start : tie.At-loop invariant-loop decreases-loop → tie.Start invariant-loop decreases-loop
+abbrev start : tie.At-loop-i invariant-loop decreases-loop → tie.Start invariant-loop decreases-loop
 start c = c.before.before.before
 
 -- where a turn has the next head, and the loop's test before it
-abbrev turn : tie.After-head-past invariant-loop decreases-loop → tie.At-loop invariant-loop decreases-loop
+abbrev turn : tie.After-head_past-next invariant-loop decreases-loop → tie.At-loop-i invariant-loop decreases-loop
 turn c = c.before.before.before.before
 
-loop-holds : tie.Need-loop-init invariant-loop decreases-loop
+loop-holds : tie.Need-loop-i-init invariant-loop decreases-loop
 unfolding all_below
 loop-holds c = (refl, along_none _ _ _ _, omega arith)
 
-loop-again : tie.Need-loop-preserved invariant-loop decreases-loop
+loop-again : tie.Need-loop-i-preserved invariant-loop decreases-loop
 loop-again c =
-    let on : tie.After-head-past invariant-loop decreases-loop = c.before in
-    let inv = (turn on).loop.invariant in
-    (asked_more _ _ _ inv.1 inv.0 c.head-fits.ensures, along_more _ _ _ _ _ inv.1 on.head-past.ensures, omega arith)
+    let on : tie.After-head_past-next invariant-loop decreases-loop = c.before in
+    let inv = (turn on).loop-i.invariant in
+    (asked_more _ _ _ inv.1 inv.0 c.head_fits-fits.ensures, along_more _ _ _ _ _ inv.1 on.head_past-next.ensures, omega arith)
 
-head-past-requires : tie.Need-head-past-requires invariant-loop decreases-loop
+head-past-requires : tie.Need-head_past-next-requires invariant-loop decreases-loop
 head-past-requires c κs = let s = start c.before.before.before in (s.pre.0.0, omega (arith, s.pre.0.1))
 
-head-fits-requires : tie.Need-head-fits-requires invariant-loop decreases-loop
+head-fits-requires : tie.Need-head_fits-fits-requires invariant-loop decreases-loop
 head-fits-requires c κs = let s = start (turn c) in (s.pre.1.0, omega (arith, s.pre.1.1))
 
 -- past the loop the walk stands at the pipe's last section
-head-fits-requires-2 : tie.Need-head-fits-requires-2 invariant-loop decreases-loop
+head-fits-requires-2 : tie.Need-head_fits-fits-requires-2 invariant-loop decreases-loop
 head-fits-requires-2 c κs = let s = start c.before.before.before in (s.pre.1.0, omega (arith, s.pre.1.1))
 
 returns : tie.Need-returns invariant-loop decreases-loop
 returns c =
-    let loop : tie.At-loop invariant-loop decreases-loop = c.before.before.before.before in
-    let inv = loop.loop.invariant in
-    let end : loop.loop.i ≡ (start loop).args.l.reaches = omega arith in
-    (rw (← end) inv.1, rw (← end, ← add-one loop.loop.i) (asked_more _ _ _ inv.1 inv.0 c.head-fits2.ensures))
+    let loop : tie.At-loop-i invariant-loop decreases-loop = c.before.before.before.before in
+    let inv = loop.loop-i.invariant in
+    let end : loop.loop-i.i ≡ (start loop).args.l.reaches = omega arith in
+    (rw (← end) inv.1, rw (← end, ← add-one loop.loop-i.i) (asked_more _ _ _ inv.1 inv.0 c.head_fits-fits-2.ensures))
 
 pub judge_pipe_spec : {M : Type 1} → statement M
 judge_pipe_spec =

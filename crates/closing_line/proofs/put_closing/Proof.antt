@@ -6,31 +6,31 @@ use Rattle.listing_text.specs.Listing.{closing_text}
 use Rattle.closing_line.proofs.put_closing.Statement.{statement}
 use Rattle.closing_line.proofs.put_closing.Tie as tie
 
-done : tie.Need-returns
+done : tie.Need-returns-then-number-eq0
 unfolding closing_text
 done c =
-    let zero : tie.Then1 = c.before.before.before.before.before in
-    rw (eq-eqb _ _ zero.if1.true) c.before.before.put-word-number.ensures
+    let zero : tie.Then-number-eq0 = c.before.before.before.before.before in
+    rw (eq-eqb _ _ zero.if-number-eq0.true) c.before.before.put_word_number.ensures
 
-not_finite : tie.Need-returns-2
+not_finite : tie.Need-returns-then-number-eq40
 unfolding closing_text
 not_finite c =
-    let forty : tie.Then2 = c.before.before.before.before.before in
-    rw (ne_eqb _ _ forty.before.if1.false, eq-eqb _ _ forty.if2.true) c.before.before.put-word-numbers.ensures
+    let forty : tie.Then-number-eq40 = c.before.before.before.before.before in
+    rw (ne_eqb _ _ forty.before.if-number-eq0.false, eq-eqb _ _ forty.if-number-eq40.true) c.before.before.put_word_numbers.ensures
 
-parted : tie.Need-returns-3
+parted : tie.Need-returns-then-number-eq41
 unfolding closing_text
 parted c =
-    let forty-one : tie.Then3 = c.before.before.before.before.before in
-    let other : tie.Else2 = forty-one.before in
-    rw (ne_eqb _ _ other.before.if1.false, ne_eqb _ _ other.if2.false, eq-eqb _ _ forty-one.if3.true) c.before.before.put-word-numbers2.ensures
+    let forty-one : tie.Then-number-eq41 = c.before.before.before.before.before in
+    let other : tie.Else-number-eq40 = forty-one.before in
+    rw (ne_eqb _ _ other.before.if-number-eq0.false, ne_eqb _ _ other.if-number-eq40.false, eq-eqb _ _ forty-one.if-number-eq41.true) c.before.before.put_word_numbers-then-number-eq41.ensures
 
-refused : tie.Need-returns-4
+refused : tie.Need-returns
 unfolding closing_text
 refused c =
-    let question : tie.Else3 = c.before.before.before.before.before in
-    let other : tie.Else2 = question.before in
-    rw (ne_eqb _ _ other.before.if1.false, ne_eqb _ _ other.if2.false, ne_eqb _ _ question.if3.false) c.before.before.put-word-number2.ensures
+    let question : tie.Else-number-eq41 = c.before.before.before.before.before in
+    let other : tie.Else-number-eq40 = question.before in
+    rw (ne_eqb _ _ other.before.if-number-eq0.false, ne_eqb _ _ other.if-number-eq40.false, ne_eqb _ _ question.if-number-eq41.false) c.before.before.put_word_number-2.ensures
 
 pub put_closing_spec : {M : Type 1} → statement M
 put_closing_spec =

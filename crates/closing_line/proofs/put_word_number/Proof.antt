@@ -8,10 +8,10 @@ use Rattle.closing_line.proofs.put_word_number.Tie as tie
 
 returns : tie.Need-returns
 returns c =
-    let newline : tie.After-put-newline = c.before.before in
-    let number : tie.After-put-number = newline.before.before.before.before in
-    let word : tie.After-put-text = number.before.before.before.before in
-    (joined word.put-text.ensures (joined number.put-number.ensures.0 newline.put-newline.ensures.0), omega arith)
+    let newline : tie.After-put_newline = c.before.before in
+    let number : tie.After-put_number-b = newline.before.before.before.before in
+    let word : tie.After-put_text-a = number.before.before.before.before in
+    (joined word.put_text-a.ensures (joined number.put_number-b.ensures.0 newline.put_newline.ensures.0), omega arith)
 
 pub put_word_number_spec : {M : Type 1} → statement M
 put_word_number_spec = tie.close (tie.spec (λ c κs. omega arith) (λ c κs. omega arith) (λ c κs. omega arith) (λ c. search rules) returns)

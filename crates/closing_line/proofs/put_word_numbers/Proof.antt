@@ -8,12 +8,12 @@ use Rattle.closing_line.proofs.put_word_numbers.Tie as tie
 
 returns : tie.Need-returns
 returns c =
-    let newline : tie.After-put-newline = c.before.before in
-    let n : tie.After-put-number2 = newline.before.before.before.before in
-    let m : tie.After-put-number = n.before.before.before.before in
-    let word : tie.After-put-text = m.before.before.before.before in
-    let after-m = joined n.put-number2.ensures.0 newline.put-newline.ensures.0 in
-    (joined word.put-text.ensures (joined m.put-number.ensures.0 after-m), omega (arith, word.before.before.before.before.requires, word.put-text.ensures.after))
+    let newline : tie.After-put_newline = c.before.before in
+    let n : tie.After-put_number-c = newline.before.before.before.before in
+    let m : tie.After-put_number-b = n.before.before.before.before in
+    let word : tie.After-put_text-a = m.before.before.before.before in
+    let after-m = joined n.put_number-c.ensures.0 newline.put_newline.ensures.0 in
+    (joined word.put_text-a.ensures (joined m.put_number-b.ensures.0 after-m), omega (arith, word.before.before.before.before.requires, word.put_text-a.ensures.after))
 
 pub put_word_numbers_spec : {M : Type 1} → statement M
 put_word_numbers_spec =

@@ -7,7 +7,7 @@ use Rattle.fields.proofs.not_finite_at.Tie as tie
 
 returns : tie.Need-returns
 unfolding finite_at
-returns c = (search rules, pattern_not_finite c.u64-at.result c.u64-at.ensures)
+returns c = (search rules, pattern_not_finite c.u64_at.result c.u64_at.ensures)
 
 pub not_finite_at_spec : {M : Type 1} → statement M
 not_finite_at_spec = tie.close (tie.spec (λ c κs. search rules) (λ c. search rules) returns)

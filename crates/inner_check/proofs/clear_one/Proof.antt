@@ -10,12 +10,12 @@ use Rattle.inner_check.proofs.clear_one.Statement.{statement}
 use Rattle.inner_check.proofs.clear_one.Tie as tie
 
 by_floor :
-    (c : tie.After-floor-at)
+    (c : tie.After-floor_at)
     → let a = c.before.before.args in
-    lt (floor_in a.floors.now (a.i + 1) ⊠ a.w) a.d && lt a.d a.limit ≡ lt (c.floor-at.result ⊠ a.w) a.d && lt a.d a.limit
+    lt (floor_in a.floors.now (a.i + 1) ⊠ a.w) a.d && lt a.d a.limit ≡ lt (c.floor_at.result ⊠ a.w) a.d && lt a.d a.limit
 by_floor c =
     let a = c.before.before.args in
-    ap (λ (x : Float). lt (x ⊠ a.w) a.d && lt a.d a.limit) (sym c.floor-at.ensures)
+    ap (λ (x : Float). lt (x ⊠ a.w) a.d && lt a.d a.limit) (sym c.floor_at.ensures)
 
 pub clear_one_spec : {M : Type 1} → statement M
 clear_one_spec =
@@ -23,5 +23,5 @@ clear_one_spec =
     (tie.spec
     (λ c. omega arith)
     (λ c κs. c.before.requires)
-    (λ c. (omega arith, rw (by_floor c.before ∙ c.if1.true)))
-    (λ c. (omega arith, rw (by_floor c.before ∙ c.if1.false))))
+    (λ c. (omega arith, rw (by_floor c.before ∙ c.if-clear.true)))
+    (λ c. (omega arith, rw (by_floor c.before ∙ c.if-clear.false))))

@@ -10,15 +10,15 @@ use Rattle.inner_sections.proofs.CutRows.{in_reach}
 use Rattle.inner_sections.proofs.cm_at.Statement.{statement}
 use Rattle.inner_sections.proofs.cm_at.Tie as tie
 
-abbrev start : tie.After-read → tie.Start
+abbrev start : tie.After-read-below → tie.Start
 start c = c.before.before.before.before
 
 returns : tie.Need-returns
 unfolding cm_at
 returns c =
-    let below : tie.After-read = c.before.before in
+    let below : tie.After-read-below = c.before.before in
     let s = (start below).args.s in
-    c.from_below_lem.ensures ∙ ap₂ (λ (R : Float) (x : HeadFlow). from_below s R x.head x.flow) c.before.friction-at.ensures below.read.ensures
+    c.from_below_lem.ensures ∙ ap₂ (λ (R : Float) (x : HeadFlow). from_below s R x.head x.flow) c.before.friction_at.ensures below.read-below.ensures
 
 pub cm_at_spec : {M : Type 1} → statement M
 cm_at_spec =

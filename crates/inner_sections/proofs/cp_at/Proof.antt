@@ -11,7 +11,7 @@ start c = c.before.before.before.before
 returns : tie.Need-returns
 returns c =
     let a = (start c.before).args in
-    cp_from (one_pipe a.friction.now a.heads.now a.flows.now) a.s a.i c.before.read.ensures c.cp-along.ensures
+    cp_from (one_pipe a.friction.now a.heads.now a.flows.now) a.s a.i c.before.read.ensures c.cp_along.ensures
 
 pub cp_at_spec : {M : Type 1} → statement M
 cp_at_spec = tie.close (tie.spec (λ c κs. (omega arith, omega arith)) (λ c κs. in_reach (start c).requires.0 _ (omega arith)) returns)

@@ -4,7 +4,7 @@ use Rattle.fields.specs.Finite.{finite_at}
 use Rattle.inner_sections.proofs.friction_at.Statement.{statement}
 use Rattle.inner_sections.proofs.friction_at.Tie as tie
 
-f64-at-requires : tie.Need-f64-at-requires
+f64-at-requires : tie.Need-f64_at-requires
 unfolding finite_at
 f64-at-requires c κs = (search rules, c.before.requires.1)
 

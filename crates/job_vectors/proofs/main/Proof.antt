@@ -6,10 +6,10 @@ use borrow.Author.Rules.{rules}
 use Rattle.job_vectors.proofs.main.Statement.{statement}
 use Rattle.job_vectors.proofs.main.Tie as tie
 
-abbrev invariant-loop : tie.invariant-loop
+abbrev invariant-loop : tie.invariant-loop-turns
 invariant-loop space₀ turns₀ space turns = (turns ≤ 1000) × (65536 ≡ length space)
 
-abbrev decreases-loop : tie.decreases-loop
+abbrev decreases-loop : tie.decreases-loop-turns
 decreases-loop space₀ turns₀ space turns = 1000 - turns
 
 pub main_spec : {M : Type 1} → statement M

@@ -6,10 +6,10 @@ use borrow.Author.Rules.{rules}
 use Rattle.line_bytes.proofs.main.Statement.{statement}
 use Rattle.line_bytes.proofs.main.Tie as tie
 
-abbrev invariant-loop : tie.invariant-loop
+abbrev invariant-loop : tie.invariant-loop-at
 invariant-loop buffer count at₀ at = (at ≤ count) × (count ≤ length buffer) × (length buffer ≡ 4096)
 
-abbrev decreases-loop : tie.decreases-loop
+abbrev decreases-loop : tie.decreases-loop-at
 decreases-loop buffer count at₀ at = count - at
 
 pub main_spec : {M : Type 1} → statement M

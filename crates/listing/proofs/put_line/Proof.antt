@@ -7,7 +7,7 @@ use Rattle.listing_text.proofs.StoredTexts.{joined}
 use Rattle.listing.proofs.put_line.Statement.{statement}
 use Rattle.listing.proofs.put_line.Tie as tie
 
-abbrev number : tie.After-put-values → tie.After-put-decimal
+abbrev number : tie.After-put_values → tie.After-put_decimal-next
 number c = c.before.before.before.before
 
 three : (c : tie.Start) → places c.args.section ≤ 3
@@ -15,7 +15,7 @@ three c = places_bound 2 c.args.section (omega arith)
 
 returns : tie.Need-returns
 returns c =
-    (joined (number c.before.before).put-decimal.ensures.0 c.before.before.put-values.ensures.0, omega (arith, three (number c.before.before).before.before.before))
+    (joined (number c.before.before).put_decimal-next.ensures.0 c.before.before.put_values.ensures.0, omega (arith, three (number c.before.before).before.before.before))
 
 pub put_line_spec : {M : Type 1} → statement M
 put_line_spec =

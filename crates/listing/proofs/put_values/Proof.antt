@@ -7,13 +7,13 @@ use Rattle.listing.proofs.put_values.Tie as tie
 
 returns : tie.Need-returns
 returns c =
-    let newline : tie.After-put-newline = c.before.before in
-    let lowest : tie.After-put-pattern4 = newline.before.before.before.before in
-    let highest : tie.After-put-pattern3 = lowest.before.before.before.before in
-    let flow : tie.After-put-pattern2 = highest.before.before.before.before in
-    let head : tie.After-put-pattern = flow.before.before.before.before in
-    let after-highest = joined lowest.put-pattern4.ensures.0 newline.put-newline.ensures.0 in
-    (joined head.put-pattern.ensures.0 (joined flow.put-pattern2.ensures.0 (joined highest.put-pattern3.ensures.0 after-highest)), omega arith)
+    let newline : tie.After-put_newline = c.before.before in
+    let lowest : tie.After-put_pattern-d = newline.before.before.before.before in
+    let highest : tie.After-put_pattern-c = lowest.before.before.before.before in
+    let flow : tie.After-put_pattern-b = highest.before.before.before.before in
+    let head : tie.After-put_pattern-a = flow.before.before.before.before in
+    let after-highest = joined lowest.put_pattern-d.ensures.0 newline.put_newline.ensures.0 in
+    (joined head.put_pattern-a.ensures.0 (joined flow.put_pattern-b.ensures.0 (joined highest.put_pattern-c.ensures.0 after-highest)), omega arith)
 
 pub put_values_spec : {M : Type 1} → statement M
 put_values_spec =

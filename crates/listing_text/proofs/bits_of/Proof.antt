@@ -14,12 +14,12 @@ no_nan nan e = absurd (true≢false (sym nan_differs ∙ e))
 no_nan (inf s) e = tt
 no_nan (fin s m d) e = tt
 
-returns : tie.Need-returns
+returns : tie.Need-returns-then-x
 unfolding to_bits
-returns c = rw (differs_from_itself c.before.args.x (subst T (sym c.if1.true) tt))
+returns c = rw (differs_from_itself c.before.args.x (subst T (sym c.if-x.true) tt))
 
-float-to-bits-result : tie.Need-float-to-bits-result
-float-to-bits-result c = no_nan c.before.args.x c.if1.false
+float-to-bits-result : tie.Need-float_to_bits-result
+float-to-bits-result c = no_nan c.before.args.x c.if-x.false
 
 pub bits_of_spec : {M : Type 1} → statement M
 bits_of_spec = tie.close (tie.spec returns float-to-bits-result (λ c. search rules))

@@ -9,17 +9,17 @@ use Rattle.listing_text.proofs.Digits.{places_few, places_more}
 use Rattle.listing_text.proofs.places_of.Statement.{statement}
 use Rattle.listing_text.proofs.places_of.Tie as tie
 
-abbrev invariant-loop : tie.invariant-loop
+abbrev invariant-loop : tie.invariant-loop-left
 invariant-loop n count₀ left₀ count left = (count + places left ≡ places n + 1) × (count + left ≤ n + 1)
 
-abbrev decreases-loop : tie.decreases-loop
+abbrev decreases-loop : tie.decreases-loop-left
 decreases-loop n count₀ left₀ count left = left
 
-loop-again : tie.Need-loop-preserved invariant-loop decreases-loop
-loop-again c = omega (arith, places_more c.before.loop.left c.loop-test.true)
+loop-again : tie.Need-loop-left-preserved invariant-loop decreases-loop
+loop-again c = omega (arith, places_more c.before.loop-left.left c.loop-left-test.true)
 
 returns : tie.Need-returns invariant-loop decreases-loop
-returns c = omega (arith, places_few c.before.loop.left c.loop-test.false)
+returns c = omega (arith, places_few c.before.loop-left.left c.loop-left-test.false)
 
 pub places_of_spec : {M : Type 1} → statement M
 places_of_spec =

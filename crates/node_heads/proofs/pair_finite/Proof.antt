@@ -7,25 +7,25 @@ use Rattle.node_sums.specs.FromRows.{pair_finite}
 use Rattle.node_heads.proofs.pair_finite.Statement.{statement}
 use Rattle.node_heads.proofs.pair_finite.Tie as tie
 
-returns : tie.Need-returns
+returns : tie.Need-returns-in-Junction
 unfolding pair_finite
-returns c = rw c.enum_told.given.1
+returns c = rw c.in-Junction.is
 
-returns-2 : tie.Need-returns-2
+returns-2 : tie.Need-returns-in-Reservoir
 unfolding pair_finite
-returns-2 c = rw c.enum-told2.given.1
+returns-2 c = rw c.in-Reservoir.is
 
-returns-3 : tie.Need-returns-3
+returns-3 : tie.Need-returns-in-Valve
 unfolding pair_finite
-returns-3 c = rw c.enum-told3.given.1
+returns-3 c = rw c.in-Valve.is
 
-returns-4 : tie.Need-returns-4
+returns-4 : tie.Need-returns-in-Pump
 unfolding pair_finite
 returns-4 c =
-    let speed = c.before.before.n.given.0.0 in
+    let speed = c.before.before.in-Pump.speed in
     let inflow = c.before.before.before.before.args.inflow in
     let is : c.both_finite.result ≡ finite speed && finite inflow = c.both_finite.ensures in
-    rw c.before.before.n.given.1 is
+    rw c.before.before.in-Pump.is is
 
 pub pair_finite_spec : {M : Type 1} → statement M
 pair_finite_spec =

@@ -8,4 +8,4 @@ use Rattle.node_questions.proofs.count_fits.Tie as tie
 pub count_fits_spec : {M : Type 1} → statement M
 unfolding count_fits
 count_fits_spec =
-    tie.close (tie.spec (λ c κs. search rules) (λ c κs. search rules) (λ c. rw (c.before.long-count.ensures.0, c.count-byte.ensures.0) refl))
+    tie.close (tie.spec (λ c κs. search rules) (λ c κs. search rules) (λ c. rw (c.before.long_count-count.ensures.0, c.count_byte-byte.ensures.0) refl))

@@ -11,8 +11,8 @@ unfolding counts_fit
 counts_fit_spec =
     tie.close
     (tie.spec
-    (λ c. rw (eq-eqb _ _ c.if1.true))
+    (λ c. rw (eq-eqb _ _ c.if-counts-eq0.true))
     (λ c. search rules)
-    (λ c. rw (ne_eqb _ _ c.before.if1.false, ne_eqb _ _ c.if2.true))
-    (λ c κs. c.if2.false)
-    (λ c. rw (ne_eqb _ _ c.before.before.if1.false, eq-eqb _ _ c.before.if2.false) c.each-count-fits.ensures))
+    (λ c. rw (ne_eqb _ _ c.before.if-counts-eq0.false, ne_eqb _ _ c.if-counts-nodes.true))
+    (λ c κs. c.if-counts-nodes.false)
+    (λ c. rw (ne_eqb _ _ c.before.before.if-counts-eq0.false, eq-eqb _ _ c.before.if-counts-nodes.false) c.each_count_fits.ensures))

@@ -7,10 +7,10 @@ use borrow.Author.Rules.{rules}
 use Rattle.node_questions.proofs.each_count_fits.Statement.{statement}
 use Rattle.node_questions.proofs.each_count_fits.Tie as tie
 
-abbrev invariant-loop : tie.invariant-loop
+abbrev invariant-loop : tie.invariant-loop-node
 invariant-loop nodes counts n node₀ node = Passing (count_fits nodes counts) n node
 
-abbrev decreases-loop : tie.decreases-loop
+abbrev decreases-loop : tie.decreases-loop-node
 decreases-loop nodes counts n node₀ node = n - node
 
 pub each_count_fits_spec : {M : Type 1} → statement M
@@ -22,8 +22,8 @@ each_count_fits_spec =
     decreases-loop
     (λ c. passing_none _)
     (λ c κs. search rules)
-    (λ c. passing_stop _ c.before.before.loop-test.true c.before.count-fits.ensures c.if1.true)
+    (λ c. passing_stop _ c.before.before.loop-node-test.true c.before.count_fits.ensures c.if-not-count_fits.true)
     (λ c. search rules)
     (λ c. search rules)
-    (λ c. passing_step _ c.before.before.before.loop.invariant (omega arith) c.before.count-fits.ensures c.if1.false)
-    (λ c. passing_done _ c.before.loop.invariant c.loop-test.false))
+    (λ c. passing_step _ c.before.before.before.loop-node.invariant (omega arith) c.before.count_fits.ensures c.if-not-count_fits.false)
+    (λ c. passing_done _ c.before.loop-node.invariant c.loop-node-test.false))

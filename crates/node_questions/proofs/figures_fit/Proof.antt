@@ -7,10 +7,10 @@ use borrow.Author.Rules.{rules}
 use Rattle.node_questions.proofs.figures_fit.Statement.{statement}
 use Rattle.node_questions.proofs.figures_fit.Tie as tie
 
-abbrev invariant-loop : tie.invariant-loop
+abbrev invariant-loop : tie.invariant-loop-node
 invariant-loop nodes n node₀ node = Passing (figure_fits nodes) n node
 
-abbrev decreases-loop : tie.decreases-loop
+abbrev decreases-loop : tie.decreases-loop-node
 decreases-loop nodes n node₀ node = n - node
 
 pub figures_fit_spec : {M : Type 1} → statement M
@@ -22,8 +22,8 @@ figures_fit_spec =
     decreases-loop
     (λ c. passing_none _)
     (λ c κs. search rules)
-    (λ c. passing_stop _ c.before.before.loop-test.true c.before.figure-fits.ensures c.if1.true)
+    (λ c. passing_stop _ c.before.before.loop-node-test.true c.before.figure_fits.ensures c.if-not-figure_fits.true)
     (λ c. search rules)
     (λ c. search rules)
-    (λ c. passing_step _ c.before.before.before.loop.invariant (omega arith) c.before.figure-fits.ensures c.if1.false)
-    (λ c. passing_done _ c.before.loop.invariant c.loop-test.false))
+    (λ c. passing_step _ c.before.before.before.loop-node.invariant (omega arith) c.before.figure_fits.ensures c.if-not-figure_fits.false)
+    (λ c. passing_done _ c.before.loop-node.invariant c.loop-node-test.false))

@@ -12,8 +12,8 @@ figures_fit_kind_spec =
     (tie.spec
     (λ c κs. search rules)
     (λ c κs. search rules)
-    (λ c. rw (← c.before.before.kind.ensures.0, eq-eqb _ _ c.before.if1.true) c.valve-fits.ensures)
+    (λ c. rw (← c.before.before.kind-k.ensures.0, eq-eqb _ _ c.before.if-k-eq2.true) c.valve_fits.ensures)
     (λ c κs. search rules)
-    (λ c. rw (← c.before.before.before.kind.ensures.0, ne_eqb _ _ c.before.before.if1.false, eq-eqb _ _ c.before.if2.true) c.pump-fits.ensures)
+    (λ c. rw (← c.before.before.before.kind-k.ensures.0, ne_eqb _ _ c.before.before.if-k-eq2.false, eq-eqb _ _ c.before.if-k-eq3.true) c.pump_fits.ensures)
     (λ c κs. search rules)
-    (λ c. rw (← c.before.before.before.kind.ensures.0, ne_eqb _ _ c.before.before.if1.false, ne_eqb _ _ c.before.if2.false) c.has-no-figures.ensures))
+    (λ c. rw (← c.before.before.before.kind-k.ensures.0, ne_eqb _ _ c.before.before.if-k-eq2.false, ne_eqb _ _ c.before.if-k-eq3.false) c.has_no_figures.ensures))

@@ -10,10 +10,10 @@ use borrow.Author.Rules.{rules}
 use Rattle.node_questions.proofs.has_end.Statement.{statement}
 use Rattle.node_questions.proofs.has_end.Tie as tie
 
-abbrev invariant-loop : tie.invariant-loop
+abbrev invariant-loop : tie.invariant-loop-p
 invariant-loop pipes node n p₀ p = Passing (λ p. not (ends_at node (pipe_in pipes p))) n p
 
-abbrev decreases-loop : tie.decreases-loop
+abbrev decreases-loop : tie.decreases-loop-p
 decreases-loop pipes node n p₀ p = n - p
 
 pub has_end_spec : {M : Type 1} → statement M
@@ -25,8 +25,8 @@ has_end_spec =
     decreases-loop
     (λ c. passing_none _)
     (λ c κs. search rules)
-    (λ c. ap not (passing_stop _ c.before.before.loop-test.true (ap not c.before.ends_at.ensures) (ap (λ t. not (not t)) c.if1.true)))
+    (λ c. ap not (passing_stop _ c.before.before.loop-p-test.true (ap not c.before.ends_at.ensures) (ap (λ t. not (not t)) c.if-ends_at.true)))
     (λ c. search rules)
     (λ c. search rules)
-    (λ c. passing_step _ c.before.before.before.loop.invariant (omega arith) (ap not c.before.ends_at.ensures) (ap (λ t. not (not t)) c.if1.false))
-    (λ c. ap not (passing_done _ c.before.loop.invariant c.loop-test.false)))
+    (λ c. passing_step _ c.before.before.before.loop-p.invariant (omega arith) (ap not c.before.ends_at.ensures) (ap (λ t. not (not t)) c.if-ends_at.false))
+    (λ c. ap not (passing_done _ c.before.loop-p.invariant c.loop-p-test.false)))

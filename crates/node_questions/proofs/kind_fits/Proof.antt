@@ -8,4 +8,4 @@ use Rattle.node_questions.proofs.kind_fits.Tie as tie
 pub kind_fits_spec : {M : Type 1} → statement M
 unfolding kind_fits
 kind_fits_spec =
-    tie.close (tie.spec (λ c κs. search rules) (λ c κs. search rules) (λ c. rw (c.before.kind.ensures.0, c.count-byte.ensures.0) refl))
+    tie.close (tie.spec (λ c κs. search rules) (λ c κs. search rules) (λ c. rw (c.before.kind.ensures.0, c.count_byte.ensures.0) refl))

@@ -7,10 +7,10 @@ use borrow.Author.Rules.{rules}
 use Rattle.node_questions.proofs.nodes_met.Statement.{statement}
 use Rattle.node_questions.proofs.nodes_met.Tie as tie
 
-abbrev invariant-loop : tie.invariant-loop
+abbrev invariant-loop : tie.invariant-loop-node
 invariant-loop pipes count node₀ node = Passing (has_end pipes) count node
 
-abbrev decreases-loop : tie.decreases-loop
+abbrev decreases-loop : tie.decreases-loop-node
 decreases-loop pipes count node₀ node = count - node
 
 pub nodes_met_spec : {M : Type 1} → statement M
@@ -22,8 +22,8 @@ nodes_met_spec =
     decreases-loop
     (λ c. passing_none _)
     (λ c κs. search rules)
-    (λ c. passing_stop _ c.before.before.loop-test.true c.before.has-end.ensures c.if1.true)
+    (λ c. passing_stop _ c.before.before.loop-node-test.true c.before.has_end.ensures c.if-not-has_end.true)
     (λ c. search rules)
     (λ c. search rules)
-    (λ c. passing_step _ c.before.before.before.loop.invariant (omega arith) c.before.has-end.ensures c.if1.false)
-    (λ c. passing_done _ c.before.loop.invariant c.loop-test.false))
+    (λ c. passing_step _ c.before.before.before.loop-node.invariant (omega arith) c.before.has_end.ensures c.if-not-has_end.false)
+    (λ c. passing_done _ c.before.loop-node.invariant c.loop-node-test.false))

@@ -8,14 +8,14 @@ use Rattle.pipe_layout.proofs.Acceptance.{pairs_accepted, friction_length}
 use Rattle.node_sums.proofs.friction_at.Statement.{statement}
 use Rattle.node_sums.proofs.friction_at.Tie as tie
 
-r-at-requires : tie.Need-r-at-requires
+r-at-requires : tie.Need-r_at-requires
 r-at-requires c κs =
     let pre = c.before.before.requires in
     rw c.friction.ensures (friction_fits_lem _ pre.0, omega (arith, friction_length _ pre.0))
 
 returns : tie.Need-returns
 unfolding friction_at job_of
-returns c = c.r-at.ensures ∙ rw c.before.friction.ensures
+returns c = c.r_at.ensures ∙ rw c.before.friction.ensures
 
 pub friction_at_spec : {M : Type 1} → statement M
 friction_at_spec = tie.close (tie.spec (λ c κs. pairs_accepted _ c.before.requires.0) r-at-requires returns)

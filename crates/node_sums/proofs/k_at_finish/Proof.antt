@@ -12,23 +12,23 @@ use Rattle.node_sums.proofs.k_at_finish.Statement.{statement}
 use Rattle.node_sums.proofs.k_at_finish.Tie as tie
 
 -- the function's entry
-abbrev start : tie.After-struct-known → tie.Start
+abbrev start : tie.After-struct_known-1 → tie.Start
 start c = c.before.before.before.before
 
 -- where the pipe lies
-here : (c : tie.After-struct-known) → Within (start c).args.job.now (start c).requires.0.accepted (start c).requires.1.number (laid_of (start c).args.l)
+here : (c : tie.After-struct_known-1) → Within (start c).args.job.now (start c).requires.0.accepted (start c).requires.1.number (laid_of (start c).args.l)
 here c = within _ (start c).requires.0.accepted _ _ (start c).requires.1.is
 
 returns : tie.Need-returns
 unfolding k_at_finish
 returns c =
-    let read : tie.After-friction-at = c.before.before.before in
-    let begin : tie.After-struct-known = read.before.before.before in
+    let read : tie.After-friction_at = c.before.before.before in
+    let begin : tie.After-struct_known-1 = read.before.before.before in
     let args = (start begin).args in
     let i = args.l.reaches - 1 in
     rw (← sub-one args.l.reaches)
     (along_read finish_k args.job.now args.heads.now args.flows.now (laid_of args.l) i i (start begin).requires.0 (omega (arith, here begin))
-    read.friction-at.ensures c.finish_k_lem.ensures)
+    read.friction_at.ensures c.finish_k_lem.ensures)
 
 pub k_at_finish_spec : {M : Type 1} → statement M
 k_at_finish_spec =

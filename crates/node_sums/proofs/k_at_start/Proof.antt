@@ -14,22 +14,22 @@ use Rattle.node_sums.proofs.k_at_start.Statement.{statement}
 use Rattle.node_sums.proofs.k_at_start.Tie as tie
 
 -- the function's entry
-abbrev start : tie.After-struct-known → tie.Start
+abbrev start : tie.After-struct_known-1 → tie.Start
 start c = c.before.before.before.before
 
 -- where the pipe lies
-here : (c : tie.After-struct-known) → Within (start c).args.job.now (start c).requires.0.accepted (start c).requires.1.number (laid_of (start c).args.l)
+here : (c : tie.After-struct_known-1) → Within (start c).args.job.now (start c).requires.0.accepted (start c).requires.1.number (laid_of (start c).args.l)
 here c = within _ (start c).requires.0.accepted _ _ (start c).requires.1.is
 
 returns : tie.Need-returns
 unfolding k_at_start
 returns c =
-    let read : tie.After-friction-at = c.before.before.before in
-    let begin : tie.After-struct-known = read.before in
+    let read : tie.After-friction_at = c.before.before.before in
+    let begin : tie.After-struct_known-1 = read.before in
     let args = (start begin).args in
     let reach : args.l.first_reach ≡ args.l.first_reach + 0 = omega arith in
     along_read start_k args.job.now args.heads.now args.flows.now (laid_of args.l) 0 1 (start begin).requires.0 (omega (arith, here begin))
-    (read.friction-at.ensures ∙ ap (friction_at (job_of args.job.now)) reach) c.start_k_lem.ensures
+    (read.friction_at.ensures ∙ ap (friction_at (job_of args.job.now)) reach) c.start_k_lem.ensures
 
 pub k_at_start_spec : {M : Type 1} → statement M
 k_at_start_spec =

@@ -15,90 +15,90 @@ use Rattle.node_values.proofs.NodeValues.{value_up_to, record_taken, all_taken}
 use Rattle.node_values.proofs.values_at.Statement.{statement}
 use Rattle.node_values.proofs.values_at.Tie as tie
 
-abbrev invariant-loop : tie.invariant-loop
+abbrev invariant-loop : tie.invariant-loop-i
 invariant-loop job step speeds inflows values₀ trips count i₀ values i =
     (i ≤ count) × (length values ≡ length values₀) × (OverNodes job (value_up_to job step speeds inflows i) values)
 
-abbrev decreases-loop : tie.decreases-loop
+abbrev decreases-loop : tie.decreases-loop-i
 decreases-loop job step speeds inflows values₀ trips count i₀ values i = count - i
 
 -- the function's entry, where the records are counted, and the turn that has a record's node
-abbrev start : tie.After-trips invariant-loop decreases-loop → tie.Start invariant-loop decreases-loop
+abbrev start : tie.After-trips-trips invariant-loop decreases-loop → tie.Start invariant-loop decreases-loop
 start c =
-    let scheduled : tie.After-scheduled-at invariant-loop decreases-loop = c.before.before.before in
+    let scheduled : tie.After-scheduled_at invariant-loop decreases-loop = c.before.before.before in
     scheduled.before.before.before.before.before.before
 
-abbrev counted : tie.In-loop invariant-loop decreases-loop → tie.After-trip-count invariant-loop decreases-loop
+abbrev counted : tie.In-loop-i invariant-loop decreases-loop → tie.After-trip_count-count invariant-loop decreases-loop
 counted c = c.before.before
 
-abbrev turn : tie.After-node-of invariant-loop decreases-loop → tie.In-loop invariant-loop decreases-loop
+abbrev turn : tie.After-node_of-node invariant-loop decreases-loop → tie.In-loop-i invariant-loop decreases-loop
 turn c = c.before
 
 -- the loop has not passed the last record of table 7
-here : (c : tie.In-loop invariant-loop decreases-loop) → c.before.loop.i < trip_count (trip_table (start (counted c).before).args.job.now)
-here c = rw (← (counted c).before.trips.ensures, ← (counted c).trip-count.ensures) c.loop-test.true
+here : (c : tie.In-loop-i invariant-loop decreases-loop) → c.before.loop-i.i < trip_count (trip_table (start (counted c).before).args.job.now)
+here c = rw (← (counted c).before.trips-trips.ensures, ← (counted c).trip_count-count.ensures) c.loop-i-test.true
 
 -- what question 53 says of the record at hand, and its node as the code read it
-good : (c : tie.In-loop invariant-loop decreases-loop) → let job = (start (counted c).before).args.job.now in GoodTrip (node_table job) (trip_table job) c.before.loop.i
+good : (c : tie.In-loop-i invariant-loop decreases-loop) → let job = (start (counted c).before).args.job.now in GoodTrip (node_table job) (trip_table job) c.before.loop-i.i
 good c = accepted_trip _ (start (counted c).before).pre.0.0 _ (here c)
 
-node_is : (c : tie.After-node-of invariant-loop decreases-loop)
-    → c.node_of.result ≡ (trip_in (trip_table (start (counted (turn c)).before).args.job.now) (turn c).before.loop.i).node
-node_is c = c.node_of.ensures ∙ ap (λ (trips : List ℕ). (trip_in trips (turn c).before.loop.i).node) (counted (turn c)).before.trips.ensures
+node_is : (c : tie.After-node_of-node invariant-loop decreases-loop)
+    → c.node_of-node.result ≡ (trip_in (trip_table (start (counted (turn c)).before).args.job.now) (turn c).before.loop-i.i).node
+node_is c = c.node_of-node.ensures ∙ ap (λ (trips : List ℕ). (trip_in trips (turn c).before.loop-i.i).node) (counted (turn c)).before.trips-trips.ensures
 
-present : (c : tie.After-node-of invariant-loop decreases-loop) → c.node_of.result < node_count (node_table (start (counted (turn c)).before).args.job.now)
+present : (c : tie.After-node_of-node invariant-loop decreases-loop) → c.node_of-node.result < node_count (node_table (start (counted (turn c)).before).args.job.now)
 present c = omega (arith, node_is c, (good (turn c)).present)
 
-value_there : (c : tie.After-node-of invariant-loop decreases-loop) → c.node_of.result < length (turn c).before.loop.values
-value_there c = omega (arith, present c, (turn c).before.loop.invariant.2.long)
+value_there : (c : tie.After-node_of-node invariant-loop decreases-loop) → c.node_of-node.result < length (turn c).before.loop-i.values-1
+value_there c = omega (arith, present c, (turn c).before.loop-i.invariant.2.long)
 
-low : (c : tie.After-node-of invariant-loop decreases-loop) → c.node_of.result < 32
+low : (c : tie.After-node_of-node invariant-loop decreases-loop) → c.node_of-node.result < 32
 low c = omega (arith, few_nodes _ (start (counted (turn c)).before).pre.0.0, present c)
 
-speed_there : (c : tie.After-node-of invariant-loop decreases-loop) → c.node_of.result < length (start (counted (turn c)).before).args.speeds.now
+speed_there : (c : tie.After-node_of-node invariant-loop decreases-loop) → c.node_of-node.result < length (start (counted (turn c)).before).args.speeds.now
 speed_there c = omega (arith, present c, (start (counted (turn c)).before).pre.1.0)
 
-inflow_there : (c : tie.After-node-of invariant-loop decreases-loop) → c.node_of.result < length (start (counted (turn c)).before).args.inflows.now
+inflow_there : (c : tie.After-node_of-node invariant-loop decreases-loop) → c.node_of-node.result < length (start (counted (turn c)).before).args.inflows.now
 inflow_there c = omega (arith, present c, (start (counted (turn c)).before).pre.1.1)
 
-loop-holds : tie.Need-loop-init invariant-loop decreases-loop
+loop-holds : tie.Need-loop-i-init invariant-loop decreases-loop
 unfolding value_by last_that
 loop-holds c =
-    let scheduled : tie.After-scheduled-at invariant-loop decreases-loop = c.before.before.before.before in
-    (omega arith, refl, scheduled.scheduled-at.ensures)
+    let scheduled : tie.After-scheduled_at invariant-loop decreases-loop = c.before.before.before.before in
+    (omega arith, refl, scheduled.scheduled_at.ensures)
 
-loop-again : tie.Need-loop-preserved invariant-loop decreases-loop
+loop-again : tie.Need-loop-i-preserved invariant-loop decreases-loop
 loop-again c =
-    let read : tie.After-node-of invariant-loop decreases-loop = c.before.before.before.before in
+    let read : tie.After-node_of-node invariant-loop decreases-loop = c.before.before.before.before in
     let at = turn read in
     let begun = start (counted at).before in
     let a = begun.args in (
-      omega (arith, at.loop-test.taken),
-      simp length-set at.before.loop.inv.1,
-      record_taken _ begun.pre.0.0 _ a.speeds.now a.inflows.now _ (here at) (counted at).before.trips.ensures read.node_of.ensures (speed_there read) (inflow_there read)
-          at.before.loop.inv.2 c.value-by.ensures,
+      omega (arith, at.loop-i-test.taken),
+      simp length-set at.before.loop-i.inv.1,
+      record_taken _ begun.pre.0.0 _ a.speeds.now a.inflows.now _ (here at) (counted at).before.trips-trips.ensures read.node_of-node.ensures (speed_there read) (inflow_there read)
+          at.before.loop-i.inv.2 c.value_by.ensures,
     )
 
 -- It stands after what a turn leaves, so that of another record the prover tells that first.
-value-by-requires : tie.Need-value-by-requires invariant-loop decreases-loop
+value-by-requires : tie.Need-value_by-requires invariant-loop decreases-loop
 value-by-requires c κs =
-    let read : tie.After-node-of invariant-loop decreases-loop = c.before.before.before in
-    let table = (counted (turn read)).before.trips.ensures in
+    let read : tie.After-node_of-node invariant-loop decreases-loop = c.before.before.before in
+    let table = (counted (turn read)).before.trips-trips.ensures in
     rw table (here (turn read), (good (turn read)).rundown)
 
-same_length : tie.Need-same-length invariant-loop decreases-loop
+same_length : tie.Need-shape_of-values invariant-loop decreases-loop
 same_length c =
-    let loop : tie.At-loop invariant-loop decreases-loop = c.before in
-    let scheduled : tie.After-scheduled-at invariant-loop decreases-loop = loop.before.before.before.before.before in
-    loop.loop.invariant.1 ∙ scheduled.scheduled-at.auto.1.1.0
+    let loop : tie.At-loop-i invariant-loop decreases-loop = c.before in
+    let scheduled : tie.After-scheduled_at invariant-loop decreases-loop = loop.before.before.before.before.before in
+    loop.loop-i.invariant.1 ∙ scheduled.scheduled_at.auto.1.1.0
 
 returns : tie.Need-returns invariant-loop decreases-loop
 returns c =
-    let loop : tie.At-loop invariant-loop decreases-loop = c.before in
-    let count : tie.After-trip-count invariant-loop decreases-loop = loop.before in
+    let loop : tie.At-loop-i invariant-loop decreases-loop = c.before in
+    let count : tie.After-trip_count-count invariant-loop decreases-loop = loop.before in
     let begun = start count.before in
-    all_taken _ begun.pre.0.0 _ begun.args.speeds.now begun.args.inflows.now {i = loop.loop.i}
-    (omega (arith, count.trip-count.ensures, ap length count.before.trips.ensures, c.loop-test.false)) loop.loop.invariant.2
+    all_taken _ begun.pre.0.0 _ begun.args.speeds.now begun.args.inflows.now {i = loop.loop-i.i}
+    (omega (arith, count.trip_count-count.ensures, ap length count.before.trips-trips.ensures, c.loop-i-test.false)) loop.loop-i.invariant.2
 
 pub values_at_spec : {M : Type 1} → statement M
 values_at_spec =
@@ -110,7 +110,7 @@ values_at_spec =
     (λ c κs. pairs_accepted _ (let s : tie.Start invariant-loop decreases-loop = c.before.before.before.before.before.before.before.before in s.requires.0.0))
     (λ c κs. search rules)
     loop-holds
-    (λ c κs. rw (← (counted c).trip-count.ensures) c.loop-test.true)
+    (λ c κs. rw (← (counted c).trip_count-count.ensures) c.loop-i-test.true)
     (λ c. omega (arith, low c))
     (λ c. speed_there c.before)
     (λ c. omega (arith, low c.before))

@@ -19,85 +19,85 @@ use Rattle.pipe_ends.proofs.SpareLaws.{k_none, k_more, k_rest}
 use Rattle.pipe_ends.proofs.keep_k.Statement.{statement}
 use Rattle.pipe_ends.proofs.keep_k.Tie as tie
 
-abbrev invariant-loop : tie.invariant-loop
+abbrev invariant-loop : tie.invariant-loop-at
 invariant-loop job heads flows spare₀ count sums₀ at₀ spare sums at =
     (at.pipe ≤ count) × (Walked job at)
     × (sums ≡ summed (with_t job) (k_at_start (along_rows job heads flows)) (k_at_finish (along_rows job heads flows)) (take at.pipe (laid (job_of job))))
     × (length spare ≡ length spare₀) × (KTo job heads flows spare at.pipe) × (drop (at.pipe * 4) spare ≡ drop (at.pipe * 4) spare₀)
 
-abbrev decreases-loop : tie.decreases-loop
+abbrev decreases-loop : tie.decreases-loop-at
 decreases-loop job heads flows spare₀ count sums₀ at₀ spare sums at = count - at.pipe
 
 -- the function's entry
-abbrev start : tie.After-pipe-count invariant-loop decreases-loop → tie.Start invariant-loop decreases-loop
+abbrev start : tie.After-pipe_count-count invariant-loop decreases-loop → tie.Start invariant-loop decreases-loop
 start c = c.before.before.before.before.before
 
-abbrev entry : tie.At-loop invariant-loop decreases-loop → tie.Start invariant-loop decreases-loop
+abbrev entry : tie.At-loop-at invariant-loop decreases-loop → tie.Start invariant-loop decreases-loop
 entry c = start c.before.before
 
-loop-holds : tie.Need-loop-init invariant-loop decreases-loop
-loop-holds c = rw c.begun.ensures (search rules, walk_none, (start c.before).pre.1 ∙ b_none _ _ _, refl, k_none _ _ _ _, refl)
+loop-holds : tie.Need-loop-at-init invariant-loop decreases-loop
+loop-holds c = rw c.begun-at.ensures (search rules, walk_none, (start c.before).pre.1 ∙ b_none _ _ _, refl, k_none _ _ _ _, refl)
 
 -- the walk has not passed the last pipe
-here : (c : tie.Then1 invariant-loop decreases-loop) → c.before.before.loop.at.pipe < pipe_count (pipe_table (entry c.before.before).args.job.now)
-here c = omega (arith, c.before.before.before.before.pipe-count.ensures.0)
+here : (c : tie.In-loop-at invariant-loop decreases-loop) → c.before.before.loop-at.at.pipe < pipe_count (pipe_table (entry c.before.before).args.job.now)
+here c = omega (arith, c.before.before.before.before.pipe_count-count.ensures.0)
 
 -- there is room for the ends of one pipe more
-room : (c : tie.Then1 invariant-loop decreases-loop) → c.before.before.loop.at.pipe * 4 + 4 ≤ length c.before.before.loop.spare
-room c = omega (arith, here c, c.before.before.loop.invariant.3, (entry c.before.before).pre.2)
+room : (c : tie.In-loop-at invariant-loop decreases-loop) → c.before.before.loop-at.at.pipe * 4 + 4 ≤ length c.before.before.loop-at.spare
+room c = omega (arith, here c, c.before.before.loop-at.invariant.3, (entry c.before.before).pre.2)
 
-pipe-at-requires : tie.Need-pipe-at-requires invariant-loop decreases-loop
-pipe-at-requires c κs = ((entry c.before.before).pre.0.accepted, here c, c.before.before.loop.invariant.1)
+pipe-at-requires : tie.Need-pipe_at-l-requires invariant-loop decreases-loop
+pipe-at-requires c κs = ((entry c.before.before).pre.0.accepted, here c, c.before.before.loop-at.invariant.1)
 
 -- the pipe at hand, and the walk past it
-next : (c : tie.After-pipe-at invariant-loop decreases-loop)
-    → let loop : tie.At-loop invariant-loop decreases-loop = c.before.before.before in
-    Onward (entry loop).args.job.now (entry loop).requires.0.accepted loop.loop.at c.pipe_at_lem.result
+next : (c : tie.After-pipe_at-l invariant-loop decreases-loop)
+    → let loop : tie.At-loop-at invariant-loop decreases-loop = c.before.before.before in
+    Onward (entry loop).args.job.now (entry loop).requires.0.accepted loop.loop-at.at c.pipe_at_lem.result
 next c =
-    let loop : tie.At-loop invariant-loop decreases-loop = c.before.before.before in
-    onward _ (entry loop).requires.0.accepted _ _ loop.loop.invariant.1 c.pipe_at_lem.ensures
+    let loop : tie.At-loop-at invariant-loop decreases-loop = c.before.before.before in
+    onward _ (entry loop).requires.0.accepted _ _ loop.loop-at.invariant.1 c.pipe_at_lem.ensures
 
-k-at-start-requires : tie.Need-k-at-start-requires invariant-loop decreases-loop
+k-at-start-requires : tie.Need-k_at_start-at_start-requires invariant-loop decreases-loop
 k-at-start-requires c κs = ((entry c.before.before.before).pre.0, record { number = _; is = c.pipe_at_lem.ensures })
 
-k-at-finish-requires : tie.Need-k-at-finish-requires invariant-loop decreases-loop
+k-at-finish-requires : tie.Need-k_at_finish-at_finish-requires invariant-loop decreases-loop
 k-at-finish-requires c κs = k-at-start-requires c.before κs
 
 -- where the pipe was read, once both its ends are added
-abbrev at-pipe : tie.After-with-k2 invariant-loop decreases-loop → tie.After-pipe-at invariant-loop decreases-loop
+abbrev at-pipe : tie.After-with_k-in-loop-at invariant-loop decreases-loop → tie.After-pipe_at-l invariant-loop decreases-loop
 at-pipe c = c.before.before.before.before.before.before
 
-past-requires : tie.Need-past-requires invariant-loop decreases-loop
+past-requires : tie.Need-past-at-requires invariant-loop decreases-loop
 past-requires c κs = omega (arith, (next (at-pipe c.before)).low)
 
-loop-again : tie.Need-loop-preserved invariant-loop decreases-loop
+loop-again : tie.Need-loop-at-preserved invariant-loop decreases-loop
 loop-again c =
-    let second : tie.After-with-k2 invariant-loop decreases-loop = c.before.before in
-    let first : tie.After-with-k invariant-loop decreases-loop = second.before.before in
-    let ks : tie.After-k-at-finish invariant-loop decreases-loop = first.before.before in
-    let read : tie.After-pipe-at invariant-loop decreases-loop = ks.before.before in
-    let loop : tie.At-loop invariant-loop decreases-loop = read.before.before.before in
-    let inv = loop.loop.invariant in
+    let second : tie.After-with_k-in-loop-at invariant-loop decreases-loop = c.before.before in
+    let first : tie.After-with_k invariant-loop decreases-loop = second.before.before in
+    let ks : tie.After-k_at_finish-at_finish invariant-loop decreases-loop = first.before.before in
+    let read : tie.After-pipe_at-l invariant-loop decreases-loop = ks.before.before in
+    let loop : tie.At-loop-at invariant-loop decreases-loop = read.before.before.before in
+    let inv = loop.loop-at.invariant in
     let l = laid_of read.pipe_at_lem.result in
     let is = read.pipe_at_lem.ensures in
-    let p = loop.loop.at.pipe in
-    let at_start_figure = ks.before.k-at-start.ensures in
-    let at_finish_figure = ks.k-at-finish.ensures in
-    rw c.past.ensures (
+    let p = loop.loop-at.at.pipe in
+    let at_start_figure = ks.before.k_at_start-at_start.ensures in
+    let at_finish_figure = ks.k_at_finish-at_finish.ensures in
+    rw c.past-at.ensures (
       search rules,
       (next read).walked,
-      sums_more (with_t _) _ _ _ (entry loop).requires.0.accepted p with_k (b_adds _) _ l is inv.2 first.with-k.ensures second.with-k2.ensures at_start_figure at_finish_figure,
+      sums_more (with_t _) _ _ _ (entry loop).requires.0.accepted p with_k (b_adds _) _ l is inv.2 first.with_k.ensures second.with_k-in-loop-at.ensures at_start_figure at_finish_figure,
       simp length-set inv.3,
-      k_more _ _ _ loop.loop.spare p l _ _ (room read.before) inv.4 is at_start_figure at_finish_figure,
-      k_rest (entry loop).args.spare.now loop.loop.spare p _ _ inv.5,
+      k_more _ _ _ loop.loop-at.spare p l _ _ (room read.before) inv.4 is at_start_figure at_finish_figure,
+      k_rest (entry loop).args.spare.now loop.loop-at.spare p _ _ inv.5,
     )
 
 returns : tie.Need-returns invariant-loop decreases-loop
 returns c =
-    let loop : tie.At-loop invariant-loop decreases-loop = c.before.before in
-    let inv = loop.loop.invariant in
-    let all : pipe_count (pipe_table (entry loop).args.job.now) ≡ loop.loop.at.pipe = omega (arith, loop.before.before.pipe-count.ensures.0) in
-    (sums_all (with_t _) _ _ _ (entry loop).requires.0.accepted loop.loop.at.pipe inv.2 all ∙ b_all _ _ _, rw all inv.4, rw all inv.5)
+    let loop : tie.At-loop-at invariant-loop decreases-loop = c.before.before in
+    let inv = loop.loop-at.invariant in
+    let all : pipe_count (pipe_table (entry loop).args.job.now) ≡ loop.loop-at.at.pipe = omega (arith, loop.before.before.pipe_count-count.ensures.0) in
+    (sums_all (with_t _) _ _ _ (entry loop).requires.0.accepted loop.loop-at.at.pipe inv.2 all ∙ b_all _ _ _, rw all inv.4, rw all inv.5)
 
 pub keep_k_spec : {M : Type 1} → statement M
 keep_k_spec =
@@ -129,7 +129,7 @@ keep_k_spec =
     (λ c. search rules)
     (λ c. simp length-set (omega (arith, room (at-pipe c.before).before)))
     past-requires
-    (λ c. rw c.past.ensures (search rules))
+    (λ c. rw c.past-at.ensures (search rules))
     loop-again
-    (λ c. c.before.before.loop.invariant.3)
+    (λ c. c.before.before.loop-at.invariant.3)
     returns)

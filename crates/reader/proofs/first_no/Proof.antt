@@ -2,37 +2,37 @@
 use mathlib.Core.Path.{sym, ◌∙◌}
 use Rattle.job.proofs.FirstNo.{refusal_is, decides, goes_on}
 use borrow.Author.Rules.{rules}
-use Rattle.reader.proofs.first_no.Statement.{statement}
-use Rattle.reader.proofs.first_no.Tie as tie
+use Rattle.reader.proofs.first_no-of_pairs.Statement.{statement}
+use Rattle.reader.proofs.first_no-of_pairs.Tie as tie
 
-returns-2 : tie.Need-returns-2
+returns-2 : tie.Need-returns-then-of_pipes-ne0
 returns-2 c =
-    let pairs : tie.Else1 = c.before.before in
-    decides _ c.before.first-no2.ensures c.if2.true ∙ goes_on pairs.before.first-no.ensures pairs.if1.false ∙ sym (refusal_is _)
+    let pairs : tie.Else-of_pairs-ne0 = c.before.before in
+    decides _ c.before.first_no-of_pipes.ensures c.if-of_pipes-ne0.true ∙ goes_on pairs.before.first_no-of_pairs.ensures pairs.if-of_pairs-ne0.false ∙ sym (refusal_is _)
 
-returns-3 : tie.Need-returns-3
+returns-3 : tie.Need-returns-then-of_nodes-ne0
 returns-3 c =
-    let pipes : tie.Else2 = c.before.before in
-    let pairs : tie.Else1 = pipes.before.before in
-    decides _ c.before.first-no3.ensures c.if3.true
-    ∙ goes_on pipes.before.first-no2.ensures pipes.if2.false
-    ∙ goes_on pairs.before.first-no.ensures pairs.if1.false
+    let pipes : tie.Else-of_pipes-ne0 = c.before.before in
+    let pairs : tie.Else-of_pairs-ne0 = pipes.before.before in
+    decides _ c.before.first_no-of_nodes.ensures c.if-of_nodes-ne0.true
+    ∙ goes_on pipes.before.first_no-of_pipes.ensures pipes.if-of_pipes-ne0.false
+    ∙ goes_on pairs.before.first_no-of_pairs.ensures pairs.if-of_pairs-ne0.false
     ∙ sym (refusal_is _)
 
-first-no-requires-4 : tie.Need-first-no-requires-4
+first-no-requires-4 : tie.Need-first_no-requires
 first-no-requires-4 c κs =
-    let pairs : tie.Else1 = c.before.before.before.before in
-    (sym pairs.before.first-no.ensures ∙ pairs.if1.false, sym c.before.first-no3.ensures ∙ c.if3.false)
+    let pairs : tie.Else-of_pairs-ne0 = c.before.before.before.before in
+    (sym pairs.before.first_no-of_pairs.ensures ∙ pairs.if-of_pairs-ne0.false, sym c.before.first_no-of_nodes.ensures ∙ c.if-of_nodes-ne0.false)
 
-returns-4 : tie.Need-returns-4
+returns-4 : tie.Need-returns
 returns-4 c =
-    let nodes : tie.Else3 = c.before in
-    let pipes : tie.Else2 = nodes.before.before in
-    let pairs : tie.Else1 = pipes.before.before in
-    c.first-no4.ensures
-    ∙ goes_on nodes.before.first-no3.ensures nodes.if3.false
-    ∙ goes_on pipes.before.first-no2.ensures pipes.if2.false
-    ∙ goes_on pairs.before.first-no.ensures pairs.if1.false
+    let nodes : tie.Else-of_nodes-ne0 = c.before in
+    let pipes : tie.Else-of_pipes-ne0 = nodes.before.before in
+    let pairs : tie.Else-of_pairs-ne0 = pipes.before.before in
+    c.first_no.ensures
+    ∙ goes_on nodes.before.first_no-of_nodes.ensures nodes.if-of_nodes-ne0.false
+    ∙ goes_on pipes.before.first_no-of_pipes.ensures pipes.if-of_pipes-ne0.false
+    ∙ goes_on pairs.before.first_no-of_pairs.ensures pairs.if-of_pairs-ne0.false
     ∙ sym (refusal_is _)
 
 pub first_no_spec : {M : Type 1} → statement M
@@ -40,10 +40,10 @@ first_no_spec =
     tie.close
     (tie.spec
     (λ c κs. search rules)
-    (λ c. decides _ c.before.first-no.ensures c.if1.true ∙ sym (refusal_is _))
-    (λ c κs. sym c.before.first-no.ensures ∙ c.if1.false)
+    (λ c. decides _ c.before.first_no-of_pairs.ensures c.if-of_pairs-ne0.true ∙ sym (refusal_is _))
+    (λ c κs. sym c.before.first_no-of_pairs.ensures ∙ c.if-of_pairs-ne0.false)
     returns-2
-    (λ c κs. let pairs : tie.Else1 = c.before.before in sym pairs.before.first-no.ensures ∙ pairs.if1.false)
+    (λ c κs. let pairs : tie.Else-of_pairs-ne0 = c.before.before in sym pairs.before.first_no-of_pairs.ensures ∙ pairs.if-of_pairs-ne0.false)
     returns-3
     first-no-requires-4
     returns-4)

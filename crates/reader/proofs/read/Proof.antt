@@ -13,28 +13,28 @@ use borrow.Author.Rules.{rules}
 use Rattle.reader.proofs.read.Statement.{statement}
 use Rattle.reader.proofs.read.Tie as tie
 
-abbrev start : tie.Else1 → tie.Start
+abbrev start : tie.Else-no-ne0 → tie.Start
 start c = c.before.before.before
 
-paired : (c : tie.Else1) → first_no pair_questions (start c).args.job.now ≡ 0
-paired c = (none_refused _ (sym c.before.first-no.ensures ∙ c.if1.false)).pairs
+paired : (c : tie.Else-no-ne0) → first_no pair_questions (start c).args.job.now ≡ 0
+paired c = (none_refused _ (sym c.before.first_no-no.ensures ∙ c.if-no-ne0.false)).pairs
 
-section-count-requires : tie.Need-section-count-requires
+section-count-requires : tie.Need-section_count-requires
 section-count-requires c κs = rw c.pipes.ensures (table_short _ (pairs_right _ (paired c.before)).size 0)
 
-listing-steps-requires : tie.Need-listing-steps-requires
+listing-steps-requires : tie.Need-listing_steps-requires
 listing-steps-requires c κs = omega (arith, size_least _ (pairs_right _ (paired c.before.before)).size)
 
-returns-2 : tie.Need-returns-2
+returns-2 : tie.Need-returns
 unfolding read_answer job_of sections
 returns-2 c =
-    let accepted : tie.Else1 = c.before.before.before in
+    let accepted : tie.Else-no-ne0 = c.before.before.before in
     rw (
-      c.before.section-count.ensures.0,
+      c.before.section_count.ensures.0,
       c.before.before.pipes.ensures,
-      c.listing-steps.ensures,
-      ← accepted.before.first-no.ensures,
-      eq-eqb _ _ accepted.if1.false,
+      c.listing_steps.ensures,
+      ← accepted.before.first_no-no.ensures,
+      eq-eqb _ _ accepted.if-no-ne0.false,
     )
 
 pub read_spec : {M : Type 1} → statement M
@@ -43,7 +43,7 @@ read_spec =
     tie.close
     (tie.spec
     (λ c κs. search rules)
-    (λ c. rw (← c.before.first-no.ensures, ne_eqb _ _ c.if1.true))
+    (λ c. rw (← c.before.first_no-no.ensures, ne_eqb _ _ c.if-no-ne0.true))
     (λ c κs. paired c)
     section-count-requires
     listing-steps-requires

@@ -36,21 +36,21 @@ held c = subst T (sym c.well-formed.0.1) tt
 both : (c : tie.Start) {a : RootAnswer} → a ≡ root_answer c.args.x → (a ≡ root_answer c.args.x) × ((v : Float) → a ≡ value v → IsRoot c.args.x v)
 both c e = (e, λ v is. answer_is_root c.args.x v (held c) (sym is ∙ e))
 
-returns : tie.Need-returns
+returns : tie.Need-returns-then-not-is_finite
 returns c =
-    let s = c.before.before in both s (not_finite s.args.x (sym c.before.is_finite.ensures ∙ not-true _ c.if1.true))
+    let s = c.before.before in both s (not_finite s.args.x (sym c.before.is_finite.ensures ∙ not-true _ c.if-not-is_finite.true))
 
 -- the argument is finite, where the first test went on
-is_finite : (c : tie.Else1) → finite c.before.before.args.x ≡ true
-is_finite c = sym c.before.is_finite.ensures ∙ not-false _ c.if1.false
+is_finite : (c : tie.Else-not-is_finite) → finite c.before.before.args.x ≡ true
+is_finite c = sym c.before.is_finite.ensures ∙ not-false _ c.if-not-is_finite.false
 
-returns-2 : tie.Need-returns-2
-returns-2 c = let s = c.before.before.before in both s (below_zero s.args.x (is_finite c.before) c.if2.true)
+returns-2 : tie.Need-returns-then-x
+returns-2 c = let s = c.before.before.before in both s (below_zero s.args.x (is_finite c.before) c.if-x.true)
 
-returns-3 : tie.Need-returns-3
+returns-3 : tie.Need-returns
 returns-3 c =
     let s = c.before.before.before.before in
-    both s (rw c.root-of.ensures (rooted s.args.x (is_finite c.before.before) c.before.if2.false))
+    both s (rw c.root_of.ensures (rooted s.args.x (is_finite c.before.before) c.before.if-x.false))
 
 pub root_spec : {M : Type 1} → statement M
 root_spec = tie.close (tie.spec (λ c κs. search rules) returns returns-2 (λ c κs. search rules) returns-3)

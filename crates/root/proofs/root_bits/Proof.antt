@@ -5,9 +5,9 @@ use Prim.Native.Nat.{ℕ, ◌+◌, ◌-◌, ◌*◌, ◌/◌, ◌%◌, ◌^◌, 
 use native.Mathlib.Nat.{mul-le-mul_left}
 use native.Mathlib.Omega.{arith}
 use borrow.Author.Rules.{rules}
-use Rattle.whole_root.specs.WholeRoot.{whole_root}
-use Rattle.whole_root.specs.Digits.{LeavesRest}
-use Rattle.whole_root.proofs.WholeLaws.{whole_root_is, one_root, root_by_rest, root_below}
+use Rattle.whole_root-cut.specs.WholeRoot.{whole_root}
+use Rattle.whole_root-cut.specs.Digits.{LeavesRest}
+use Rattle.whole_root-cut.proofs.WholeLaws.{whole_root_is, one_root, root_by_rest, root_below}
 use Rattle.root.specs.Nearest.{to_nearest}
 use Rattle.root.specs.Root.{cut_places}
 use Rattle.root.proofs.Powers.{wide_places, wide_cut}
@@ -51,33 +51,33 @@ is_pattern b d p root rest w l =
     ∙ pattern_is (d * 2 ^ p) ((p - 52) / 2) (d * (1 + p % 2) * 2 ^ 52) root (wide_places d p w.full w.bound w.least) (wide_cut d p w.full w.bound w.least)
     (sym (is_root (d * (1 + p % 2)) root rest (evened b d p w) l)))
 
-mul-m : tie.Need-overflow-mul-m
-mul-m c = omega (arith, evened c.before.args.b c.widened.result.digits c.widened.result.power c.widened.ensures)
+mul-m : tie.Need-overflow_mul-m
+mul-m c = omega (arith, evened c.before.args.b c.widened-w.result.digits c.widened-w.result.power c.widened-w.ensures)
 
-whole-root-requires : tie.Need-whole-root-requires
+whole-root-requires : tie.Need-whole_root-cut-requires
 whole-root-requires c κs =
     let b = c.before.args.b in
-    let d = c.widened.result.digits in
-    let p = c.widened.result.power in
-    (c.before.requires.0, still_full b d p c.widened.ensures, evened b d p c.widened.ensures)
+    let d = c.widened-w.result.digits in
+    let p = c.widened-w.result.power in
+    (c.before.requires.0, still_full b d p c.widened-w.ensures, evened b d p c.widened-w.ensures)
 
 -- the bound on the root, once it is taken
-short : (c : tie.After-whole-root) → c.whole-root.result.root < 2 ^ 53
+short : (c : tie.After-whole_root-cut) → c.whole_root-cut.result.root < 2 ^ 53
 short c =
     let w = c.before in
-    let d = w.widened.result.digits in
-    let p = w.widened.result.power in
-    root_lt (d * (1 + p % 2)) c.whole-root.result.root c.whole-root.result.rest (evened w.before.args.b d p w.widened.ensures) c.whole-root.ensures
+    let d = w.widened-w.result.digits in
+    let p = w.widened-w.result.power in
+    root_lt (d * (1 + p % 2)) c.whole_root-cut.result.root c.whole_root-cut.result.rest (evened w.before.args.b d p w.widened-w.ensures) c.whole_root-cut.ensures
 
 rounded-requires : tie.Need-rounded-requires
-rounded-requires c κs = (short c, omega (arith, c.before.widened.ensures.most))
+rounded-requires c κs = (short c, omega (arith, c.before.widened-w.ensures.most))
 
 returns : tie.Need-returns
 returns c =
     let r = c.before in
     let w = r.before in
     rw c.rounded.ensures
-    (is_pattern w.before.args.b w.widened.result.digits w.widened.result.power r.whole-root.result.root r.whole-root.result.rest w.widened.ensures r.whole-root.ensures)
+    (is_pattern w.before.args.b w.widened-w.result.digits w.widened-w.result.power r.whole_root-cut.result.root r.whole_root-cut.result.rest w.widened-w.ensures r.whole_root-cut.ensures)
 
 pub root_bits_spec : {M : Type 1} → statement M
 root_bits_spec =

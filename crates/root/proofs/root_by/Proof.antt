@@ -21,37 +21,37 @@ held c = subst T (sym c.well-formed.1.0.1) tt
 at : (c : tie.Start) (b : ℕ) → to_bits binary64 c.args.x ≡ b → root_of (of_bits binary64 b) ≡ root_of c.args.x
 at c b e = ap root_of (ap (of_bits binary64) (sym e) ∙ of_bits-to_bits binary64 c.args.x (held c))
 
-returns : tie.Need-returns
-returns c = nan_answer c.before.args.x c.if1.true
+returns : tie.Need-returns-then-x
+returns c = nan_answer c.before.args.x c.if-x.true
 
-float-to-bits-b : tie.Need-float-to-bits-b
-float-to-bits-b c = no_nan c.before.args.x c.if1.false
+float-to-bits-b : tie.Need-float_to_bits-b
+float-to-bits-b c = no_nan c.before.args.x c.if-x.false
 
-returns-2 : tie.Need-returns-2
-returns-2 c = zero_answer ∙ at c.before.before 0 c.if2.true
+returns-2 : tie.Need-returns-then-b-eq0
+returns-2 c = zero_answer ∙ at c.before.before 0 c.if-b-eq0.true
 
-returns-3 : tie.Need-returns-3
-returns-3 c = minus_zero_answer ∙ at c.before.before.before 0x8000_0000_0000_0000 c.if3.true
+returns-3 : tie.Need-returns-then-b
+returns-3 c = minus_zero_answer ∙ at c.before.before.before 0x8000_0000_0000_0000 c.if-b.true
 
-returns-4 : tie.Need-returns-4
-returns-4 c = let s = c.before.before.before.before in high_answer s.args.x (held s) c.if4.true c.before.if3.false
+returns-4 : tie.Need-returns-then-b-ge9218868437227405312
+returns-4 c = let s = c.before.before.before.before in high_answer s.args.x (held s) c.if-b-ge9218868437227405312.true c.before.if-b.false
 
-above : (c : tie.Else4) → 0 < to_bits binary64 c.before.before.before.before.args.x
-above c = positive (to_bits binary64 c.before.before.before.before.args.x) c.before.before.if2.false
+above : (c : tie.Else-b-ge9218868437227405312) → 0 < to_bits binary64 c.before.before.before.before.args.x
+above c = positive (to_bits binary64 c.before.before.before.before.args.x) c.before.before.if-b-eq0.false
   where
     positive : (b : ℕ) → (b ≡ 0 → ⊥) → 0 < b
     positive b n = omega arith
 
-float-from-bits-result : tie.Need-float-from-bits-result
+float-from-bits-result : tie.Need-float_from_bits-result
 float-from-bits-result c =
     let b = to_bits binary64 c.before.before.before.before.before.args.x in
-    subst (λ (r : ℕ). T (not (nan_bits binary64 r))) (sym c.root-bits.ensures) (root_no_nan b (above c.before) c.before.if4.false)
+    subst (λ (r : ℕ). T (not (nan_bits binary64 r))) (sym c.root_bits.ensures) (root_no_nan b (above c.before) c.before.if-b-ge9218868437227405312.false)
 
-returns-5 : tie.Need-returns-5
+returns-5 : tie.Need-returns
 returns-5 c =
     let s = c.before.before.before.before.before in
     let b = to_bits binary64 s.args.x in
-    ap (of_bits binary64) c.root-bits.ensures ∙ value_answer b (above c.before) c.before.if4.false ∙ at s b refl
+    ap (of_bits binary64) c.root_bits.ensures ∙ value_answer b (above c.before) c.before.if-b-ge9218868437227405312.false ∙ at s b refl
 
 pub root_by_spec : {M : Type 1} → statement M
 root_by_spec =

@@ -19,14 +19,14 @@ unfolding to_nearest
 rounds_down q rest h = add-zero q ∙ sym (ap (λ (t : Bool). cond t (q + 1) q) (le_ltb (q * q + q) (q * q + rest) (omega arith)))
 
 -- the sum of the root and 0 or 1 is the nearest
-sum_is : (c : tie.Joined1) → c.before.args.root + c.if1.up ≡ to_nearest (c.before.args.root * c.before.args.root + c.before.args.rest) c.before.args.root
+sum_is : (c : tie.Joined-root-rest) → c.before.args.root + c.if-root-rest.up ≡ to_nearest (c.before.args.root * c.before.args.root + c.before.args.rest) c.before.args.root
 sum_is c =
     let q = c.before.args.root in
     let rest = c.before.args.rest in
-    ⊎_elim (λ w. rw w.1 (rounds_up q rest w.0.taken)) (λ w. rw w.1 (rounds_down q rest w.0.left)) c.if1.branch
+    ⊎_elim (λ w. rw w.1 (rounds_up q rest w.0.taken)) (λ w. rw w.1 (rounds_down q rest w.0.left)) c.if-root-rest.branch
 
-at_most_one : (c : tie.Joined1) → c.if1.up ≤ 1
-at_most_one c = ⊎_elim (λ w. omega (arith, w.1)) (λ w. omega (arith, w.1)) c.if1.branch
+at_most_one : (c : tie.Joined-root-rest) → c.if-root-rest.up ≤ 1
+at_most_one c = ⊎_elim (λ w. omega (arith, w.1)) (λ w. omega (arith, w.1)) c.if-root-rest.branch
 
 pub rounded_spec : {M : Type 1} → statement M
 rounded_spec =

@@ -63,18 +63,18 @@ normal_value (suc x) t n =
     let e : x + 1074 ≡ suc x + 1073 = omega arith in
     mul_assoc (2 ^ 52 + t) (2 ^ x) (2 ^ 1074) ∙ ap (λ (y : ℕ). (2 ^ 52 + t) * y) (sym (pow-add 2 x 1074) ∙ ap (λ (y : ℕ). 2 ^ y) e)
 
-lifts : (c : tie.Then1) → Lifted (c.before.args.b % 2 ^ 52) (count_leading_zeros 64 (c.before.args.b % 2 ^ 52))
-lifts c = lifted (c.before.args.b % 2 ^ 52) (below_full c.before.args.b c.before.requires.0 c.if1.true) (omega arith)
+lifts : (c : tie.Then-field-eq0) → Lifted (c.before.args.b % 2 ^ 52) (count_leading_zeros 64 (c.before.args.b % 2 ^ 52))
+lifts c = lifted (c.before.args.b % 2 ^ 52) (below_full c.before.args.b c.before.requires.0 c.if-field-eq0.true) (omega arith)
 
-returns : tie.Need-returns
-returns c = subnormal c.before.args.b (count_leading_zeros 64 (c.before.args.b % 2 ^ 52)) c.if1.true (lifts c)
+returns : tie.Need-returns-then-field-eq0
+returns c = subnormal c.before.args.b (count_leading_zeros 64 (c.before.args.b % 2 ^ 52)) c.if-field-eq0.true (lifts c)
 
-returns-2 : tie.Need-returns-2
+returns-2 : tie.Need-returns-else-field-eq0
 returns-2 c =
     let b = c.before.args.b in record {
       full = omega arith;
       bound = omega arith;
-      value = normal_value (b / 2 ^ 52) (b % 2 ^ 52) c.if1.false;
+      value = normal_value (b / 2 ^ 52) (b % 2 ^ 52) c.if-field-eq0.false;
       least = omega arith;
       most = omega arith;
     }

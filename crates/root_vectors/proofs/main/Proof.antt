@@ -5,10 +5,10 @@ use borrow.Author.Rules.{rules}
 use Rattle.root_vectors.proofs.main.Statement.{statement}
 use Rattle.root_vectors.proofs.main.Tie as tie
 
-abbrev invariant-loop : tie.invariant-loop
+abbrev invariant-loop : tie.invariant-loop-k
 invariant-loop buffer count n k₀ k = (k ≤ n) × (n * 8 ≤ 4096) × (length buffer ≤ 4096) × (4096 ≤ length buffer)
 
-abbrev decreases-loop : tie.decreases-loop
+abbrev decreases-loop : tie.decreases-loop-k
 decreases-loop buffer count n k₀ k = n - k
 
 pub main_spec : {M : Type 1} → statement M

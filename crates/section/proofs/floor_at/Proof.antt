@@ -5,9 +5,9 @@ use Rattle.section.proofs.floor_at.Statement.{statement}
 use Rattle.section.proofs.floor_at.Tie as tie
 
 returns : tie.Need-returns
-returns c = c.f64-at.ensures
+returns c = c.f64_at.ensures
 
-f64-at-requires : tie.Need-f64-at-requires
+f64-at-requires : tie.Need-f64_at-requires
 unfolding finite_at
 f64-at-requires c κs = (search rules, c.before.requires.1)
 

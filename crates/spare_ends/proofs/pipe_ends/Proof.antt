@@ -9,10 +9,10 @@ use Rattle.spare_ends.proofs.pipe_ends.Tie as tie
 
 returns : tie.Need-returns
 returns c =
-    let started : tie.After-start-end = c.before.before.before in
+    let started : tie.After-start_end-start = c.before.before.before in
     let args = started.before.before.before.before.before.args in
-    let start = started.start-end.ensures in
-    let finish = c.finish-end.ensures in
+    let start = started.start_end-start.ensures in
+    let finish = c.finish_end-finish.ensures in
     λ i. with_ends args.spare.now (args.p * 4) (start i) (finish i)
 
 pub pipe_ends_spec : {M : Type 1} → statement M

@@ -10,27 +10,27 @@ use Rattle.step_check.proofs.end_faults.Statement.{statement}
 use Rattle.step_check.proofs.end_faults.Tie as tie
 
 -- the function's entry
-abbrev start : tie.After-struct-known → tie.Start
+abbrev start : tie.After-struct_known-1 → tie.Start
 start c = c.before.before.before
 
 -- where the pipe lies
-here : (c : tie.After-struct-known) → Within (start c).args.job.now (start c).requires.0 (start c).requires.1.number (laid_of (start c).args.l)
+here : (c : tie.After-struct_known-1) → Within (start c).args.job.now (start c).requires.0 (start c).requires.1.number (laid_of (start c).args.l)
 here c = within _ (start c).requires.0 _ _ (start c).requires.1.is
 
-floor-of-requires : tie.Need-floor-of-requires
+floor-of-requires : tie.Need-floor_of-requires
 floor-of-requires c κs = let known = c.before.before in ((start known).requires.0, omega (arith, here known))
 
-floor-of-requires-2 : tie.Need-floor-of-requires-2
+floor-of-requires-2 : tie.Need-floor_of-requires-2
 floor-of-requires-2 c κs = let known = c.before.before.before.before in ((start known).requires.0, omega (arith, here known))
 
 returns : tie.Need-returns
 returns c =
-    let first : tie.After-unsound = c.before.before in
-    let ends : tie.After-end-at2 = first.before.before in (
-      omega (arith, first.unsound.ensures.0, c.unsound2.ensures.0),
+    let first : tie.After-unsound-at_start = c.before.before in
+    let ends : tie.After-end_at-finish = first.before.before in (
+      omega (arith, first.unsound-at_start.ensures.0, c.unsound-at_finish.ensures.0),
       ap₂ ◌+◌
-          (first.unsound.ensures.1 ∙ ap₂ counted first.before.floor-of.ensures ends.before.end-at.ensures)
-          (c.unsound2.ensures.1 ∙ ap₂ counted c.before.floor-of2.ensures ends.end-at2.ensures),
+          (first.unsound-at_start.ensures.1 ∙ ap₂ counted first.before.floor_of.ensures ends.before.end_at-start.ensures)
+          (c.unsound-at_finish.ensures.1 ∙ ap₂ counted c.before.floor_of-2.ensures ends.end_at-finish.ensures),
     )
 
 pub end_faults_spec : {M : Type 1} → statement M

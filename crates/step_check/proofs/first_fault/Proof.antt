@@ -19,46 +19,46 @@ use Rattle.step_check.proofs.FirstFault.{pipe_searched, first_after, first_found
 use Rattle.step_check.proofs.first_fault.Statement.{statement}
 use Rattle.step_check.proofs.first_fault.Tie as tie
 
-abbrev invariant-loop : tie.invariant-loop
+abbrev invariant-loop : tie.invariant-loop-at
 invariant-loop job heads flows spare count at₀ at =
     (at.pipe ≤ count) × (Walked job at)
     × ((nodes : ℕ → Node) → EndsIn job nodes heads flows spare → first_below earlier none (fault_at (initial_table job) (new_section job nodes heads flows)) at.section ≡ none)
 
-abbrev decreases-loop : tie.decreases-loop
+abbrev decreases-loop : tie.decreases-loop-at
 decreases-loop job heads flows spare count at₀ at = count - at.pipe
 
 -- the function's entry
-abbrev start : tie.After-pipe-count invariant-loop decreases-loop → tie.Start invariant-loop decreases-loop
+abbrev start : tie.After-pipe_count-count invariant-loop decreases-loop → tie.Start invariant-loop decreases-loop
 start c = c.before.before.before.before.before
 
-abbrev entry : tie.At-loop invariant-loop decreases-loop → tie.Start invariant-loop decreases-loop
+abbrev entry : tie.At-loop-at invariant-loop decreases-loop → tie.Start invariant-loop decreases-loop
 entry c = start c.before.before
 
-loop-holds : tie.Need-loop-init invariant-loop decreases-loop
-loop-holds c = rw c.begun.ensures (search rules, walk_none, λ nodes e. first_none earlier none _)
+loop-holds : tie.Need-loop-at-init invariant-loop decreases-loop
+loop-holds c = rw c.begun-at.ensures (search rules, walk_none, λ nodes e. first_none earlier none _)
 
 -- the walk has not passed the last pipe
-here : (c : tie.Then1 invariant-loop decreases-loop) → c.before.before.loop.at.pipe < pipe_count (pipe_table (entry c.before.before).args.job.now)
-here c = omega (arith, c.before.before.before.before.pipe-count.ensures.0)
+here : (c : tie.In-loop-at invariant-loop decreases-loop) → c.before.before.loop-at.at.pipe < pipe_count (pipe_table (entry c.before.before).args.job.now)
+here c = omega (arith, c.before.before.before.before.pipe_count-count.ensures.0)
 
-pipe-at-requires : tie.Need-pipe-at-requires invariant-loop decreases-loop
-pipe-at-requires c κs = ((entry c.before.before).pre.0.accepted, here c, c.before.before.loop.invariant.1)
+pipe-at-requires : tie.Need-pipe_at-l-requires invariant-loop decreases-loop
+pipe-at-requires c κs = ((entry c.before.before).pre.0.accepted, here c, c.before.before.loop-at.invariant.1)
 
 -- the pipe at hand, and the walk past it
-next : (c : tie.After-pipe-at invariant-loop decreases-loop)
-    → let loop : tie.At-loop invariant-loop decreases-loop = c.before.before.before in
-    Onward (entry loop).args.job.now (entry loop).requires.0.accepted loop.loop.at c.pipe_at_lem.result
+next : (c : tie.After-pipe_at-l invariant-loop decreases-loop)
+    → let loop : tie.At-loop-at invariant-loop decreases-loop = c.before.before.before in
+    Onward (entry loop).args.job.now (entry loop).requires.0.accepted loop.loop-at.at c.pipe_at_lem.result
 next c =
-    let loop : tie.At-loop invariant-loop decreases-loop = c.before.before.before in
-    onward _ (entry loop).requires.0.accepted _ _ loop.loop.invariant.1 c.pipe_at_lem.ensures
+    let loop : tie.At-loop-at invariant-loop decreases-loop = c.before.before.before in
+    onward _ (entry loop).requires.0.accepted _ _ loop.loop-at.invariant.1 c.pipe_at_lem.ensures
 
-first-in-pipe-requires : tie.Need-first-in-pipe-requires invariant-loop decreases-loop
+first-in-pipe-requires : tie.Need-first_in_pipe-found-requires invariant-loop decreases-loop
 first-in-pipe-requires c κs =
     let s = entry c.before.before.before in
     (s.pre.0, record { number = _; is = c.pipe_at_lem.ensures }, omega (arith, here c.before, s.pre.1))
 
 -- the walk at the pipe that was searched
-abbrev loop-of : tie.After-first-in-pipe invariant-loop decreases-loop → tie.At-loop invariant-loop decreases-loop
+abbrev loop-of : tie.After-first_in_pipe-found invariant-loop decreases-loop → tie.At-loop-at invariant-loop decreases-loop
 loop-of c = c.before.before.before.before
 
 -- the faults of all sections, by the nodes
@@ -70,53 +70,53 @@ Ends s nodes = EndsIn s.args.job.now nodes s.args.heads.now s.args.flows.now s.a
 
 -- what is found in this pipe is its first fault
 found :
-    (c : tie.After-first-in-pipe invariant-loop decreases-loop) (nodes : ℕ → Node) → Ends (entry (loop-of c)) nodes
-    → found_fault c.first-in-pipe.result
-    ≡ first_below earlier none (λ i. faultsOf (entry (loop-of c)) nodes ((loop-of c).loop.at.section + i)) (c.before.pipe_at_lem.result.reaches + 1)
+    (c : tie.After-first_in_pipe-found invariant-loop decreases-loop) (nodes : ℕ → Node) → Ends (entry (loop-of c)) nodes
+    → found_fault c.first_in_pipe-found.result
+    ≡ first_below earlier none (λ i. faultsOf (entry (loop-of c)) nodes ((loop-of c).loop-at.at.section + i)) (c.before.pipe_at_lem.result.reaches + 1)
 found c nodes e =
-    let read : tie.After-pipe-at invariant-loop decreases-loop = c.before in
+    let read : tie.After-pipe_at-l invariant-loop decreases-loop = c.before in
     let args = (entry (loop-of c)).args in
     pipe_searched args.job.now nodes args.heads.now args.flows.now args.spare.now e _ (laid_of read.pipe_at_lem.result) read.pipe_at_lem.ensures
-    (next read).first_is c.first-in-pipe.ensures
+    (next read).first_is c.first_in_pipe-found.ensures
 
 -- a fault that is found is the first of all sections
 stop :
-    (c : tie.After-first-in-pipe invariant-loop decreases-loop) (nodes : ℕ → Node) → Ends (entry (loop-of c)) nodes
-    → ((b : Fault) → earlier (found_fault c.first-in-pipe.result) b ≡ found_fault c.first-in-pipe.result)
-    → found_fault c.first-in-pipe.result ≡ first_below earlier none (faultsOf (entry (loop-of c)) nodes) (sections (job_of (entry (loop-of c)).args.job.now))
+    (c : tie.After-first_in_pipe-found invariant-loop decreases-loop) (nodes : ℕ → Node) → Ends (entry (loop-of c)) nodes
+    → ((b : Fault) → earlier (found_fault c.first_in_pipe-found.result) b ≡ found_fault c.first_in_pipe-found.result)
+    → found_fault c.first_in_pipe-found.result ≡ first_below earlier none (faultsOf (entry (loop-of c)) nodes) (sections (job_of (entry (loop-of c)).args.job.now))
 stop c nodes e stays =
-    let loop = (loop-of c).loop in
+    let loop = (loop-of c).loop-at in
     let ahead = next c.before in
     first_found _ loop.at.section (c.before.pipe_at_lem.result.reaches + 1) (loop.inv.2 nodes e) (found c nodes e) _ (omega (arith, ahead.here.sections_in, ahead.first_is)) stays
 
-returns : tie.Need-returns invariant-loop decreases-loop
+returns : tie.Need-returns-in-NotFinite invariant-loop decreases-loop
 unfolding found_fault earlier first_fault
-returns c = λ nodes e. stop c.before.before nodes e (λ b. rw c.enum-told2.given.1)
+returns c = λ nodes e. stop c.before.before nodes e (λ b. rw c.in-NotFinite.is)
 
-returns-2 : tie.Need-returns-2 invariant-loop decreases-loop
+returns-2 : tie.Need-returns-in-Parted invariant-loop decreases-loop
 unfolding found_fault earlier first_fault
-returns-2 c = λ nodes e. stop c.before.before nodes e (λ b. rw c.enum-told3.given.1)
+returns-2 c = λ nodes e. stop c.before.before nodes e (λ b. rw c.in-Parted.is)
 
-loop-again : tie.Need-loop-preserved invariant-loop decreases-loop
+loop-again : tie.Need-loop-at-preserved invariant-loop decreases-loop
 unfolding found_fault
 loop-again c =
-    let told : tie.After-enum-told invariant-loop decreases-loop = c.before in
-    let searched : tie.After-first-in-pipe invariant-loop decreases-loop = told.before.before in
-    let loop = (loop-of searched).loop in
+    let told : tie.In-Sound invariant-loop decreases-loop = c.before in
+    let searched : tie.After-first_in_pipe-found invariant-loop decreases-loop = told.before.before in
+    let loop = (loop-of searched).loop-at in
     let n = searched.before.pipe_at_lem.result.reaches in
     let more : loop.at.section + n + 1 ≡ loop.at.section + (n + 1) = omega arith in
-    rw c.past.ensures (
+    rw c.past-at.ensures (
       search rules,
       (next searched.before).walked,
-      λ nodes e. ap (first_below earlier none _) more ∙ first_after _ loop.at.section (n + 1) (loop.inv.2 nodes e) (found searched nodes e) ∙ ap found_fault told.enum_told.given.1,
+      λ nodes e. ap (first_below earlier none _) more ∙ first_after _ loop.at.section (n + 1) (loop.inv.2 nodes e) (found searched nodes e) ∙ ap found_fault told.in-Sound.is,
     )
 
-returns-3 : tie.Need-returns-3 invariant-loop decreases-loop
+returns-3 : tie.Need-returns invariant-loop decreases-loop
 unfolding found_fault first_fault
 returns-3 c =
-    let loop : tie.At-loop invariant-loop decreases-loop = c.before.before in
-    let inv = loop.loop.invariant in
-    let all = all_passed _ (entry loop).requires.0.accepted _ inv.1 (omega (arith, loop.before.before.pipe-count.ensures.0)) in
+    let loop : tie.At-loop-at invariant-loop decreases-loop = c.before.before in
+    let inv = loop.loop-at.invariant in
+    let all = all_passed _ (entry loop).requires.0.accepted _ inv.1 (omega (arith, loop.before.before.pipe_count-count.ensures.0)) in
     λ nodes e. sym (ap (first_below earlier none _) all ∙ inv.2 nodes e)
 
 pub first_fault_spec : {M : Type 1} → statement M
@@ -135,7 +135,7 @@ first_fault_spec =
     returns
     (λ c. search rules)
     returns-2
-    (λ c κs. let searched : tie.After-first-in-pipe invariant-loop decreases-loop = c.before.before in omega (arith, (next searched.before).low))
-    (λ c. rw c.past.ensures (search rules))
+    (λ c κs. let searched : tie.After-first_in_pipe-found invariant-loop decreases-loop = c.before.before in omega (arith, (next searched.before).low))
+    (λ c. rw c.past-at.ensures (search rules))
     loop-again
     returns-3)

@@ -13,72 +13,72 @@ use Rattle.step_check.proofs.FirstFault.{fault_by_spare_lem}
 use Rattle.step_check.proofs.first_in_pipe.Statement.{statement}
 use Rattle.step_check.proofs.first_in_pipe.Tie as tie
 
-abbrev invariant-loop : tie.invariant-loop
+abbrev invariant-loop : tie.invariant-loop-i
 invariant-loop job l p heads flows spare count i₀ i = NoneYet (fault_by_spare job (laid_of l) spare (p * 4) heads flows) count i
 
-abbrev decreases-loop : tie.decreases-loop
+abbrev decreases-loop : tie.decreases-loop-i
 decreases-loop job l p heads flows spare count i₀ i = count - i
 
 -- the function's entry
-abbrev start : tie.At-loop invariant-loop decreases-loop → tie.Start invariant-loop decreases-loop
+abbrev start : tie.At-loop-i invariant-loop decreases-loop → tie.Start invariant-loop decreases-loop
 start c = c.before.before.before.before.before.before
 
 -- where the pipe lies
 here : (c : tie.Start invariant-loop decreases-loop) → Within c.args.job.now c.requires.0.accepted c.requires.1.number (laid_of c.args.l)
 here c = within _ c.requires.0.accepted _ _ c.requires.1.is
 
-new-at-requires : tie.Need-new-at-requires invariant-loop decreases-loop
+new-at-requires : tie.Need-new_at-x-requires invariant-loop decreases-loop
 new-at-requires c κs = let s = start c.before in (s.pre.0, s.pre.1, omega arith, s.pre.2)
 
-floor-of-requires : tie.Need-floor-of-requires invariant-loop decreases-loop
+floor-of-requires : tie.Need-floor_of-requires invariant-loop decreases-loop
 floor-of-requires c κs =
-    let turn : tie.In-loop invariant-loop decreases-loop = c.before.before in
+    let turn : tie.In-loop-i invariant-loop decreases-loop = c.before.before in
     let s = start turn.before in
-    (s.pre.0.accepted, omega (arith, here s, turn.loop-test.true))
+    (s.pre.0.accepted, omega (arith, here s, turn.loop-i-test.true))
 
 -- what is found at this section is its fault
 found :
-    (c : tie.After-fault-of invariant-loop decreases-loop)
-    → let turn : tie.In-loop invariant-loop decreases-loop = c.before.before.before.before in
+    (c : tie.After-fault_of-found invariant-loop decreases-loop)
+    → let turn : tie.In-loop-i invariant-loop decreases-loop = c.before.before.before.before in
     let s = start turn.before in
-    found_fault c.fault-of.result
-    ≡ fault_by_spare s.args.job.now (laid_of s.args.l) s.args.spare.now (s.args.p * 4) s.args.heads.now s.args.flows.now turn.before.loop.i
+    found_fault c.fault_of-found.result
+    ≡ fault_by_spare s.args.job.now (laid_of s.args.l) s.args.spare.now (s.args.p * 4) s.args.heads.now s.args.flows.now turn.before.loop-i.i
 found c =
-    let made : tie.After-new-at invariant-loop decreases-loop = c.before.before.before in
-    let turn : tie.In-loop invariant-loop decreases-loop = made.before in
+    let made : tie.After-new_at-x invariant-loop decreases-loop = c.before.before.before in
+    let turn : tie.In-loop-i invariant-loop decreases-loop = made.before in
     let s = start turn.before in
-    fault_by_spare_lem s.args.job.now (laid_of s.args.l) s.args.spare.now (s.args.p * 4) s.args.heads.now s.args.flows.now turn.before.loop.i
-    {floor = c.before.floor-of.result}
+    fault_by_spare_lem s.args.job.now (laid_of s.args.l) s.args.spare.now (s.args.p * 4) s.args.heads.now s.args.flows.now turn.before.loop-i.i
+    {floor = c.before.floor_of.result}
     {x = made.new_at_lem.result}
-    c.fault-of.ensures
-    c.before.floor-of.ensures
+    c.fault_of-found.ensures
+    c.before.floor_of.ensures
     made.new_at_lem.ensures
 
 -- from where a fault is told back to the turn
-abbrev turn-of : tie.After-fault-of invariant-loop decreases-loop → tie.In-loop invariant-loop decreases-loop
+abbrev turn-of : tie.After-fault_of-found invariant-loop decreases-loop → tie.In-loop-i invariant-loop decreases-loop
 turn-of c = c.before.before.before.before
 
-returns : tie.Need-returns invariant-loop decreases-loop
+returns : tie.Need-returns-in-NotFinite invariant-loop decreases-loop
 unfolding found_fault earlier
 returns c =
-    let told : tie.After-fault-of invariant-loop decreases-loop = c.before.before in
-    none_stop _ (turn-of told).before.loop.invariant (turn-of told).loop-test.true (found told) (λ b. rw c.enum-told2.given.1)
+    let told : tie.After-fault_of-found invariant-loop decreases-loop = c.before.before in
+    none_stop _ (turn-of told).before.loop-i.invariant (turn-of told).loop-i-test.true (found told) (λ b. rw c.in-NotFinite.is)
 
-returns-2 : tie.Need-returns-2 invariant-loop decreases-loop
+returns-2 : tie.Need-returns-in-Parted invariant-loop decreases-loop
 unfolding found_fault earlier
 returns-2 c =
-    let told : tie.After-fault-of invariant-loop decreases-loop = c.before.before in
-    none_stop _ (turn-of told).before.loop.invariant (turn-of told).loop-test.true (found told) (λ b. rw c.enum-told3.given.1)
+    let told : tie.After-fault_of-found invariant-loop decreases-loop = c.before.before in
+    none_stop _ (turn-of told).before.loop-i.invariant (turn-of told).loop-i-test.true (found told) (λ b. rw c.in-Parted.is)
 
-loop-again : tie.Need-loop-preserved invariant-loop decreases-loop
+loop-again : tie.Need-loop-i-preserved invariant-loop decreases-loop
 unfolding found_fault
 loop-again c =
-    let told : tie.After-fault-of invariant-loop decreases-loop = c.before.before in
-    none_more _ (turn-of told).before.loop.invariant (turn-of told).loop-test.true (sym (found told) ∙ ap found_fault c.enum_told.given.1)
+    let told : tie.After-fault_of-found invariant-loop decreases-loop = c.before.before in
+    none_more _ (turn-of told).before.loop-i.invariant (turn-of told).loop-i-test.true (sym (found told) ∙ ap found_fault c.in-Sound.is)
 
-returns-3 : tie.Need-returns-3 invariant-loop decreases-loop
+returns-3 : tie.Need-returns invariant-loop decreases-loop
 unfolding found_fault
-returns-3 c = sym (none_done _ c.before.loop.invariant c.loop-test.false)
+returns-3 c = sym (none_done _ c.before.loop-i.invariant c.loop-i-test.false)
 
 pub first_in_pipe_spec : {M : Type 1} → statement M
 first_in_pipe_spec =
@@ -89,7 +89,7 @@ first_in_pipe_spec =
     (λ c. omega (arith, here c.before.before.before.before.before))
     (λ c. none_yet _)
     new-at-requires
-    (λ c. let turn : tie.In-loop invariant-loop decreases-loop = c.before.before in omega (arith, here (start turn.before), turn.loop-test.true))
+    (λ c. let turn : tie.In-loop-i invariant-loop decreases-loop = c.before.before in omega (arith, here (start turn.before), turn.loop-i-test.true))
     floor-of-requires
     (λ c κs. search rules)
     (λ c. search rules)
@@ -97,7 +97,7 @@ first_in_pipe_spec =
     returns
     (λ c. search rules)
     returns-2
-    (λ c. let turn = turn-of c.before.before in omega (arith, here (start turn.before), turn.loop-test.taken))
+    (λ c. let turn = turn-of c.before.before in omega (arith, here (start turn.before), turn.loop-i-test.taken))
     (λ c. search rules)
     loop-again
     returns-3)

@@ -12,32 +12,32 @@ use Rattle.step_check.proofs.inner_faults.Statement.{statement}
 use Rattle.step_check.proofs.inner_faults.Tie as tie
 
 -- from each place to the one before it: the function's entry, both tables, all places of the parts
-abbrev start : tie.After-initial → tie.Start
+abbrev start : tie.After-initial-initial → tie.Start
 start c = c.before.before.before.before.before
 
-abbrev tables : tie.After-struct-known3 → tie.After-initial
+abbrev tables : tie.After-struct_known-3-1 → tie.After-initial-initial
 tables c = c.before.before.before
 
 -- where the pipe lies
-here : (c : tie.After-initial) → Within (start c).args.job.now (start c).requires.0.accepted (start c).requires.1.number (laid_of (start c).args.l)
+here : (c : tie.After-initial-initial) → Within (start c).args.job.now (start c).requires.0.accepted (start c).requires.1.number (laid_of (start c).args.l)
 here c = within _ (start c).requires.0.accepted _ _ (start c).requires.1.is
 
-part-faults-end : tie.Need-slice-bounds-faults-end
+part-faults-end : tie.Need-slice_bounds-faults-end
 part-faults-end c =
     let read = tables c in
-    omega (arith, here read, friction_length _ (start read).pre.0.accepted, ap length read.before.friction.ensures)
+    omega (arith, here read, friction_length _ (start read).pre.0.accepted, ap length read.before.friction-friction.ensures)
 
-part-faults-end-2 : tie.Need-slice-bounds-faults-end-2
+part-faults-end-2 : tie.Need-slice_bounds-faults-end-2
 part-faults-end-2 c =
     let read = tables c.before in
-    omega (arith, here read, initial_length _ (start read).pre.0.accepted, ap length read.initial.ensures)
+    omega (arith, here read, initial_length _ (start read).pre.0.accepted, ap length read.initial-initial.ensures)
 
 faults-requires : tie.Need-faults-requires
 faults-requires c κs =
     let read = tables c.before.before.before.before in
     let s = start read in
     let l = laid_of s.args.l in
-    (rw read.before.friction.ensures (cut_to_pipe _ _ _ s.pre.0 l s.pre.1), rw read.initial.ensures (floored _ _ _ s.pre.0 l s.pre.1))
+    (rw read.before.friction-friction.ensures (cut_to_pipe _ _ _ s.pre.0 l s.pre.1), rw read.initial-initial.ensures (floored _ _ _ s.pre.0 l s.pre.1))
 
 returns : tie.Need-returns
 returns c =
@@ -46,7 +46,7 @@ returns c =
     let l = laid_of s.args.l in
     let heads = s.args.heads.now in
     let n = cut_length s.args.job.now heads s.args.flows.now s.pre.0 l s.pre.1 heads s.pre.0.heads_long in
-    (omega (arith, n, c.faults.ensures.0), inner_judged _ _ _ s.pre.0 l s.pre.1 read.before.friction.ensures read.initial.ensures c.faults.result c.faults.ensures.1)
+    (omega (arith, n, c.faults.ensures.0), inner_judged _ _ _ s.pre.0 l s.pre.1 read.before.friction-friction.ensures read.initial-initial.ensures c.faults.result c.faults.ensures.1)
 
 pub inner_faults_spec : {M : Type 1} → statement M
 inner_faults_spec =

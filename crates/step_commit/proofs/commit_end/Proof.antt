@@ -5,10 +5,10 @@ use Rattle.step_commit.proofs.commit_end.Tie as tie
 
 returns : tie.Need-returns
 returns c =
-    let flows : tie.After-flows = c.before.before.before.before.before in
+    let flows : tie.After-flows-1 = c.before.before.before.before.before in
     let stored : tie.After-store = flows.before.before.before in
-    let read : tie.After-end-at = stored.before.before.before.before.before in
-    rw read.end-at.ensures at stored.store.ensures
+    let read : tie.After-end_at-x = stored.before.before.before.before.before in
+    rw read.end_at-x.ensures at stored.store.ensures
 
 pub commit_end_spec : {M : Type 1} → statement M
 commit_end_spec =

@@ -16,52 +16,52 @@ here : (c : tie.Start) → Within c.args.job.now c.requires.0.0.accepted c.requi
 here c = within _ c.requires.0.0.accepted _ _ c.requires.0.1.is
 
 -- the places, back to the start
-abbrev start_of : tie.After-slice-known4 → tie.Start
+abbrev start_of : tie.After-slice_known-4-1 → tie.Start
 start_of c = c.before.before.before.before.before
 
-abbrev cut-from : tie.After-struct-known3 → tie.After-slice-known4
+abbrev cut-from : tie.After-struct_known-3-1 → tie.After-slice_known-4-1
 cut-from c = c.before.before.before.before
 
-part-commit-end : tie.Need-slice-bounds-commit-end
+part-commit-end : tie.Need-slice_bounds-commit-end
 part-commit-end c =
-    let read : tie.After-friction = c.before.before.before in
+    let read : tie.After-friction-friction = c.before.before.before in
     let s = start_of read.before in
-    omega (arith, here s, friction_length _ s.pre.0.0.accepted, ap length read.friction.ensures)
+    omega (arith, here s, friction_length _ s.pre.0.0.accepted, ap length read.friction-friction.ensures)
 
 commit-requires : tie.Need-commit-requires
 commit-requires c κs =
-    let cut : tie.After-struct-known3 = c.before.before.before.before.before in
-    let read : tie.After-friction = cut.before.before.before in
+    let cut : tie.After-struct_known-3-1 = c.before.before.before.before.before in
+    let read : tie.After-friction-friction = cut.before.before.before in
     let s = start_of read.before in
     let is = s.pre.0.1 in
-    let heads = s.args.heads.now in
-    let n = cut_length _ heads s.args.flows.now s.pre.0.0 (laid_of s.args.l) is in
+    let heads = s.args.heads-1.now in
+    let n = cut_length _ heads s.args.flows-1.now s.pre.0.0 (laid_of s.args.l) is in
     let long = n heads s.pre.0.0.heads_long in (
-      rw read.friction.ensures (cut_to_pipe _ _ _ s.pre.0.0 (laid_of s.args.l) is),
+      rw read.friction-friction.ensures (cut_to_pipe _ _ _ s.pre.0.0 (laid_of s.args.l) is),
       (
-        omega (arith, n s.args.highest.now s.pre.1.0),
-        omega (arith, n s.args.lowest.now s.pre.1.1),
+        omega (arith, n s.args.highest-1.now s.pre.1.0),
+        omega (arith, n s.args.lowest-1.now s.pre.1.1),
       ),
     )
 
 returns : tie.Need-returns
 returns c =
-    let back : tie.After-flows = c.before.before.before.before.before in
+    let back : tie.After-flows-1 = c.before.before.before.before.before in
     let written : tie.After-commit = back.before.before.before in
-    let cut : tie.After-struct-known3 = written.before.before.before.before.before.before in
-    let read : tie.After-friction = cut.before.before.before in
+    let cut : tie.After-struct_known-3-1 = written.before.before.before.before.before.before in
+    let read : tie.After-friction-friction = cut.before.before.before in
     let s = start_of read.before in
-    let e = rw read.friction.ensures at written.commit.ensures in
+    let e = rw read.friction-friction.ensures at written.commit.ensures in
     let job = s.args.job.now in
-    let heads = s.args.heads.now in
-    let flows = s.args.flows.now in
+    let heads = s.args.heads-1.now in
+    let flows = s.args.flows-1.now in
     let lent = s.pre.0.0 in
     let l = laid_of s.args.l in
     let is = s.pre.0.1 in (
       put_back job heads flows lent l is keep_new (λ x. x.head) heads lent.heads_long e.0,
       put_back job heads flows lent l is keep_new (λ x. x.flow) flows lent.flows_long e.1,
-      put_back job heads flows lent l is raised (λ x. x.head) s.args.highest.now s.pre.1.0 e.2,
-      put_back job heads flows lent l is lowered (λ x. x.head) s.args.lowest.now s.pre.1.1 e.3,
+      put_back job heads flows lent l is raised (λ x. x.head) s.args.highest-1.now s.pre.1.0 e.2,
+      put_back job heads flows lent l is lowered (λ x. x.head) s.args.lowest-1.now s.pre.1.1 e.3,
     )
 
 pub commit_inner_spec : {M : Type 1} → statement M

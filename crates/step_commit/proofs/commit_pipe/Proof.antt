@@ -14,30 +14,30 @@ here : (c : tie.Start) → Within c.args.job.now c.requires.0.0.accepted c.requi
 here c = within _ c.requires.0.0.accepted _ _ c.requires.0.1.is
 
 -- the places, back to the start
-abbrev start_of : tie.After-struct-known → tie.Start
-start_of c = let known : tie.After-shared-slice-known2 = c.before.before.before.before.before in known.before.before
+abbrev start_of : tie.After-struct_known-1 → tie.Start
+start_of c = let known : tie.After-shared_slice_known-2-1 = c.before.before.before.before.before in known.before.before
 
-abbrev inner-from : tie.After-commit-inner → tie.Start
+abbrev inner-from : tie.After-commit_inner → tie.Start
 inner-from c = start_of c.before.before.before.before.before
 
-abbrev inner_of : tie.After-slice-known8 → tie.After-commit-inner
-inner_of c = let flows : tie.After-slice-known6 = c.before.before.before.before in flows.before.before.before.before
+abbrev inner_of : tie.After-slice_known-8-1 → tie.After-commit_inner
+inner_of c = let flows : tie.After-slice_known-6-1 = c.before.before.before.before in flows.before.before.before.before
 
-abbrev start-stored : tie.After-slice-known12 → tie.After-commit-end
-start-stored c = let flows : tie.After-slice-known10 = c.before.before.before.before in flows.before.before.before.before
+abbrev start-stored : tie.After-slice_known-12-1 → tie.After-commit_end
+start-stored c = let flows : tie.After-slice_known-10-1 = c.before.before.before.before in flows.before.before.before.before
 
-abbrev before-start : tie.After-commit-end → tie.After-commit-inner
+abbrev before-start : tie.After-commit_end → tie.After-commit_inner
 before-start c = inner_of c.before.before.before.before.before
 
-abbrev finish-stored : tie.After-slice-known16 → tie.After-commit-end2
-finish-stored c = let flows : tie.After-slice-known14 = c.before.before.before.before in flows.before.before.before.before
+abbrev finish-stored : tie.After-slice_known-16-1 → tie.After-commit_end-2
+finish-stored c = let flows : tie.After-slice_known-14-1 = c.before.before.before.before in flows.before.before.before.before
 
-commit-end-requires : tie.Need-commit-end-requires
+commit-end-requires : tie.Need-commit_end-requires
 commit-end-requires c κs =
     let inner = inner_of c.before.before.before.before in
     let s = inner-from inner in
     let u = here s in
-    let kept = inner.commit-inner.kept in (
+    let kept = inner.commit_inner.kept in (
       omega (arith, kept.1.1.0, s.pre.0.0.heads_long),
       omega (arith, kept.1.1.1.0, s.pre.0.0.flows_long),
       omega (arith, kept.1.1.1.1.0, s.pre.1.0),
@@ -48,14 +48,14 @@ commit-end-requires c κs =
 add-commit-end : tie.Need-overflow-add-commit-end
 add-commit-end c = let s = inner-from (before-start (start-stored c)) in omega (arith, s.pre.0.2)
 
-commit-end-requires-2 : tie.Need-commit-end-requires-2
+commit-end-requires-2 : tie.Need-commit_end-requires-2
 commit-end-requires-2 c κs =
     let begun = start-stored c.before.before.before.before in
     let inner = before-start begun in
     let s = inner-from inner in
     let u = here s in
-    let kept = inner.commit-inner.kept in
-    let still = begun.commit-end.kept in (
+    let kept = inner.commit_inner.kept in
+    let still = begun.commit_end.kept in (
       omega (arith, kept.1.1.0, still.1.1.1.0, s.pre.0.0.heads_long),
       omega (arith, kept.1.1.1.0, still.1.1.1.1.0, s.pre.0.0.flows_long),
       omega (arith, kept.1.1.1.1.0, still.1.1.1.1.1.0, s.pre.1.0),
@@ -69,11 +69,11 @@ returns c =
     let begun = start-stored ended.before.before.before.before.before in
     let inner = before-start begun in
     let s = inner-from inner in
-    whole_pipe s.args.job.now (laid_of s.args.l) s.args.spare.now _ s.args.heads.now s.args.flows.now s.args.highest.now s.args.lowest.now
+    whole_pipe s.args.job.now (laid_of s.args.l) s.args.spare.now _ s.args.heads-1.now s.args.flows-1.now s.args.highest-1.now s.args.lowest-1.now
     (here s).joined.has_reach
-    inner.commit-inner.ensures
-    begun.commit-end.ensures
-    ended.commit-end2.ensures
+    inner.commit_inner.ensures
+    begun.commit_end.ensures
+    ended.commit_end-2.ensures
     refl
 
 pub commit_pipe_spec : {M : Type 1} → statement M

@@ -7,17 +7,17 @@ use Rattle.time_step.specs.StepsInRows.{ending_of, result_of}
 use Rattle.surge.proofs.answer_of.Statement.{statement}
 use Rattle.surge.proofs.answer_of.Tie as tie
 
-returns : tie.Need-returns
+returns : tie.Need-returns-in-Sound
 unfolding paper_answer result_of ending_of answer_of
-returns c st = rw c.enum_told.given.1
+returns c st = rw c.in-Sound.is
 
-returns-2 : tie.Need-returns-2
+returns-2 : tie.Need-returns-in-NotFinite
 unfolding paper_answer result_of ending_of answer_of stop_answer cause_number
-returns-2 c st = rw c.before.found.given.1
+returns-2 c st = rw c.before.in-NotFinite.is
 
-returns-3 : tie.Need-returns-3
+returns-3 : tie.Need-returns-in-Parted
 unfolding paper_answer result_of ending_of answer_of stop_answer cause_number
-returns-3 c st = rw c.before.found2.given.1
+returns-3 c st = rw c.before.in-Parted.is
 
 pub answer_of_spec : {M : Type 1} → statement M
 answer_of_spec =

@@ -9,33 +9,33 @@ use Rattle.surge.proofs.carry_on.Statement.{statement}
 use Rattle.surge.proofs.carry_on.Tie as tie
 
 -- the rows as the run leaves them
-abbrev ran : tie.After-run → Rows
+abbrev ran : tie.After-run-ended → Rows
 ran c =
-    let l = c.run.new.1.1.1 in
+    let l = c.run-ended.new.1.1.1 in
     gathered l.0 l.1.0 l.1.1.0 l.1.1.1.0 l.1.1.1.1.0 l.1.1.1.1.1.0 l.1.1.1.1.1.1.0
 
 -- the function's entry, and where the run has ended
-abbrev entry : tie.After-run → tie.Start
-entry c = let lent : tie.After-slice-known7 = c.before.before.before.before.before.before.before.before in lent.before.before.before.before.before.before.before.before
+abbrev entry : tie.After-run-ended → tie.Start
+entry c = let lent : tie.After-slice_known-7-1 = c.before.before.before.before.before.before.before.before in lent.before.before.before.before.before.before.before.before
 
-abbrev ended : tie.After-clear-spare-arg → tie.After-run
+abbrev ended : tie.After-clear_spare-arg-1 → tie.After-run-ended
 ended c =
-    let speeds : tie.After-speeds = c.before.before.before.before.before.before in
-    let highest : tie.After-highest = speeds.before.before.before.before in
+    let speeds : tie.After-speeds-1 = c.before.before.before.before.before.before in
+    let highest : tie.After-highest-1 = speeds.before.before.before.before in
     highest.before.before.before.before.before
 
-ready : (c : tie.After-run) → Ready (entry c).args.job.now (ran c)
-ready c = ready_kept (ran c) c.run.auto.1.1.1 (entry c).requires.0
+ready : (c : tie.After-run-ended) → Ready (entry c).args.job.now (ran c)
+ready c = ready_kept (ran c) c.run-ended.auto.1.1.1 (entry c).requires.0
 
-clear-spare-requires : tie.Need-clear-spare-requires
+clear-spare-requires : tie.Need-clear_spare-requires
 clear-spare-requires c κs = let r = ready (ended c) in (r.accepted, spare_long r)
 
 returns : tie.Need-returns
 returns c =
-    let cleared : tie.After-clear-spare = c.before.before.before in
+    let cleared : tie.After-clear_spare = c.before.before.before in
     let done = ended cleared.before in
-    run_left _ _ (entry done).pre.0.accepted (ran done) done.run.ensures.rest (ready_enough (ready done)) _ done.run.result done.run.ensures.result_is _
-    (c.answer-of.ensures _) cleared.clear-spare.ensures
+    run_left _ _ (entry done).pre.0.accepted (ran done) done.run-ended.ensures.rest (ready_enough (ready done)) _ done.run-ended.result done.run-ended.ensures.result_is _
+    (c.answer_of.ensures _) cleared.clear_spare.ensures
 
 pub carry_on_spec : {M : Type 1} → statement M
 carry_on_spec =

@@ -4,10 +4,10 @@ use Rattle.listing_text.proofs.StoredTexts.{front_within}
 use Rattle.surgelist.proofs.print_listing.Statement.{statement}
 use Rattle.surgelist.proofs.print_listing.Tie as tie
 
-part-write-all-end : tie.Need-slice-bounds-write-all-end
+part-write-all-end : tie.Need-slice_bounds-write_all-end
 part-write-all-end c =
-    let heads : tie.After-heads2 = c.before.before.before.before.before.before.before.before in
-    front_within heads.before.write-listing-of.ensures
+    let heads : tie.After-heads-2-1 = c.before.before.before.before.before.before.before.before in
+    front_within heads.before.write_listing_of-n.ensures
 
 pub print_listing_spec : {M : Type 1} → statement M
 print_listing_spec =

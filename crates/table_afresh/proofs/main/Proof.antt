@@ -4,8 +4,8 @@ use Rattle.listing_text.proofs.StoredTexts.{front_within}
 use Rattle.table_afresh.proofs.main.Statement.{statement}
 use Rattle.table_afresh.proofs.main.Tie as tie
 
-part-write-all-end : tie.Need-slice-bounds-write-all-end
-part-write-all-end c = front_within c.before.before.write-table.ensures
+part-write-all-end : tie.Need-slice_bounds-write_all-end
+part-write-all-end c = front_within c.before.before.write_table-n.ensures
 
 pub main_spec : {M : Type 1} → statement M
 main_spec =

@@ -11,23 +11,23 @@ use borrow.Author.Rules.{rules}
 use Rattle.value_questions.proofs.below_zero.Statement.{statement}
 use Rattle.value_questions.proofs.below_zero.Tie as tie
 
-abbrev invariant-loop : tie.invariant-loop
+abbrev invariant-loop : tie.invariant-loop-r
 invariant-loop friction n low₀ r₀ low r = Counting (λ r. not_below_zero (r_in friction r)) n r low
 
-abbrev decreases-loop : tie.decreases-loop
+abbrev decreases-loop : tie.decreases-loop-r
 decreases-loop friction n low₀ r₀ low r = n - r
 
-f64-at-requires : tie.Need-f64-at-requires invariant-loop decreases-loop
+f64-at-requires : tie.Need-f64_at-requires invariant-loop decreases-loop
 unfolding finite_at
 f64-at-requires c κs =
-    let here : tie.At-loop invariant-loop decreases-loop = c.before in
+    let here : tie.At-loop-r invariant-loop decreases-loop = c.before in
     let start : tie.Start invariant-loop decreases-loop = here.before.before in
-    (search rules, all_at (λ r. finite (r_in start.args.friction.now r)) here.loop.r _ start.requires (omega arith))
+    (search rules, all_at (λ r. finite (r_in start.args.friction.now r)) here.loop-r.r _ start.requires (omega arith))
 
-loop-again : tie.Need-loop-preserved invariant-loop decreases-loop
+loop-again : tie.Need-loop-r-preserved invariant-loop decreases-loop
 loop-again c =
-    let here : tie.At-loop invariant-loop decreases-loop = c.before.before.before in
-    counting_more _ here.loop.invariant (omega arith) (rw (← c.before.f64-at.ensures) c.one-unless.ensures.1)
+    let here : tie.At-loop-r invariant-loop decreases-loop = c.before.before.before in
+    counting_more _ here.loop-r.invariant (omega arith) (rw (← c.before.f64_at.ensures) c.one_unless-low.ensures.1)
 
 pub below_zero_spec : {M : Type 1} → statement M
 below_zero_spec =
@@ -43,4 +43,4 @@ below_zero_spec =
     (λ c. search rules)
     (λ c. search rules)
     loop-again
-    (λ c. counting_done _ c.before.loop.invariant c.loop-test.false))
+    (λ c. counting_done _ c.before.loop-r.invariant c.loop-r-test.false))

@@ -9,7 +9,7 @@ use borrow.Author.Rules.{rules}
 use Rattle.value_questions.proofs.friction_fits.Statement.{statement}
 use Rattle.value_questions.proofs.friction_fits.Tie as tie
 
-counted : (c : tie.After-not-finite) → eqb c.not_finite.result 0 ≡ each_finite c.before.before.args.friction.now
+counted : (c : tie.After-not_finite) → eqb c.not_finite.result 0 ≡ each_finite c.before.before.args.friction.now
 counted c = c.not_finite.ensures ∙ from_first _ _
 
 pub friction_fits_spec : {M : Type 1} → statement M
@@ -17,6 +17,6 @@ friction_fits_spec =
     tie.close
     (tie.spec
     (λ c κs. search rules)
-    (λ c. half_fails _ _ (friction_halves _) (some_counted (counted c.before) c.if1.true))
-    (λ c κs. none_counted (counted c.before) c.if1.false)
-    (λ c. c.below_zero.ensures ∙ half_holds _ _ (friction_halves _) (none_counted (counted c.before.before) c.before.if1.false)))
+    (λ c. half_fails _ _ (friction_halves _) (some_counted (counted c.before) c.if-not_finite-ne0.true))
+    (λ c κs. none_counted (counted c.before) c.if-not_finite-ne0.false)
+    (λ c. c.below_zero.ensures ∙ half_holds _ _ (friction_halves _) (none_counted (counted c.before.before) c.before.if-not_finite-ne0.false)))

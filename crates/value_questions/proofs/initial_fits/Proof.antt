@@ -10,7 +10,7 @@ use borrow.Author.Rules.{rules}
 use Rattle.value_questions.proofs.initial_fits.Statement.{statement}
 use Rattle.value_questions.proofs.initial_fits.Tie as tie
 
-counted : (c : tie.After-not-finite) → eqb c.not_finite.result 0 ≡ sections_finite c.before.before.args.initial.now
+counted : (c : tie.After-not_finite) → eqb c.not_finite.result 0 ≡ sections_finite c.before.before.args.initial.now
 counted c = c.not_finite.ensures ∙ three_finite c.before.before.args.initial.now _
 
 pub initial_fits_spec : {M : Type 1} → statement M
@@ -19,6 +19,6 @@ initial_fits_spec =
     (tie.spec
     (λ c. search rules)
     (λ c κs. search rules)
-    (λ c. half_fails _ _ (initial_halves _) (some_counted (counted c.before) c.if1.true))
-    (λ c κs. none_counted (counted c.before) c.if1.false)
-    (λ c. c.below_floor.ensures ∙ half_holds _ _ (initial_halves _) (none_counted (counted c.before.before) c.before.if1.false)))
+    (λ c. half_fails _ _ (initial_halves _) (some_counted (counted c.before) c.if-not_finite-ne0.true))
+    (λ c κs. none_counted (counted c.before) c.if-not_finite-ne0.false)
+    (λ c. c.below_floor.ensures ∙ half_holds _ _ (initial_halves _) (none_counted (counted c.before.before) c.before.if-not_finite-ne0.false)))

@@ -9,17 +9,17 @@ use borrow.Author.Rules.{rules}
 use Rattle.value_questions.proofs.not_finite.Statement.{statement}
 use Rattle.value_questions.proofs.not_finite.Tie as tie
 
-abbrev invariant-loop : tie.invariant-loop
+abbrev invariant-loop : tie.invariant-loop-k
 invariant-loop bytes first n bad₀ k₀ bad k = Counting (λ k. finite (f64_at bytes ((first + k) * 8))) n k bad
 
-abbrev decreases-loop : tie.decreases-loop
+abbrev decreases-loop : tie.decreases-loop-k
 decreases-loop bytes first n bad₀ k₀ bad k = n - k
 
-loop-again : tie.Need-loop-preserved invariant-loop decreases-loop
+loop-again : tie.Need-loop-k-preserved invariant-loop decreases-loop
 unfolding finite_at
 loop-again c =
-    let here : tie.At-loop invariant-loop decreases-loop = c.before.before in
-    counting_more _ here.loop.invariant (omega arith) c.not-finite-at.ensures.1
+    let here : tie.At-loop-k invariant-loop decreases-loop = c.before.before in
+    counting_more _ here.loop-k.invariant (omega arith) c.not_finite_at-bad.ensures.1
 
 pub not_finite_spec : {M : Type 1} → statement M
 not_finite_spec =
@@ -35,4 +35,4 @@ not_finite_spec =
     (λ c. search rules)
     (λ c. search rules)
     loop-again
-    (λ c. counting_done _ c.before.loop.invariant c.loop-test.false))
+    (λ c. counting_done _ c.before.loop-k.invariant c.loop-k-test.false))

@@ -6,23 +6,23 @@ use borrow.Author.Rules.{rules}
 use Rattle.value_questions.proofs.schedule_fits.Statement.{statement}
 use Rattle.value_questions.proofs.schedule_fits.Tie as tie
 
-returns-2 : tie.Need-returns-2
+returns-2 : tie.Need-returns-then-kind-lt2
 returns-2 c =
-    let finite : tie.Else1 = c.before in
-    any_finite _ _ _ _ (none_counted finite.before.not_finite.ensures finite.if1.false) c.if2.true
+    let finite : tie.Else-not_finite-ne0 = c.before in
+    any_finite _ _ _ _ (none_counted finite.before.not_finite.ensures finite.if-not_finite-ne0.false) c.if-kind-lt2.true
 
-returns-3 : tie.Need-returns-3
+returns-3 : tie.Need-returns
 returns-3 c =
-    let ranged : tie.Else2 = c.before in
-    let finite : tie.Else1 = ranged.before in
-    as_ranged _ _ _ _ (none_counted finite.before.not_finite.ensures finite.if1.false) ranged.if2.false c.out_of_range.ensures
+    let ranged : tie.Else-kind-lt2 = c.before in
+    let finite : tie.Else-not_finite-ne0 = ranged.before in
+    as_ranged _ _ _ _ (none_counted finite.before.not_finite.ensures finite.if-not_finite-ne0.false) ranged.if-kind-lt2.false c.out_of_range.ensures
 
 pub schedule_fits_spec : {M : Type 1} → statement M
 schedule_fits_spec =
     tie.close
     (tie.spec
     (λ c κs. search rules)
-    (λ c. not_all_finite _ _ _ _ (some_counted c.before.not_finite.ensures c.if1.true))
+    (λ c. not_all_finite _ _ _ _ (some_counted c.before.not_finite.ensures c.if-not_finite-ne0.true))
     returns-2
-    (λ c κs. let finite : tie.Else1 = c.before in (search rules, none_counted finite.before.not_finite.ensures finite.if1.false))
+    (λ c κs. let finite : tie.Else-not_finite-ne0 = c.before in (search rules, none_counted finite.before.not_finite.ensures finite.if-not_finite-ne0.false))
     returns-3)

@@ -41,56 +41,56 @@ module _ (nodes counts schedules : List ℕ) where
 
 -- ---- of the code
 
-abbrev invariant-loop : tie.invariant-loop
+abbrev invariant-loop : tie.invariant-loop-node
 invariant-loop nodes counts schedules n place₀ node₀ place node = SumBefore nodes counts node place × Passing (schedule_fits nodes counts schedules) n node
 
-abbrev decreases-loop : tie.decreases-loop
+abbrev decreases-loop : tie.decreases-loop-node
 decreases-loop nodes counts schedules n place₀ node₀ place node = n - node
 
-abbrev start : tie.At-loop invariant-loop decreases-loop → tie.Start invariant-loop decreases-loop
+abbrev start : tie.At-loop-node invariant-loop decreases-loop → tie.Start invariant-loop decreases-loop
 start c = c.before.before.before.before
 
 -- where the node's count has been read, and the turn that reads it
-abbrev counted : tie.After-schedule-fits invariant-loop decreases-loop → tie.After-schedule-count invariant-loop decreases-loop
+abbrev counted : tie.After-schedule_fits invariant-loop decreases-loop → tie.After-schedule_count-count invariant-loop decreases-loop
 counted c = c.before.before.before
 
-abbrev turn : tie.After-schedule-fits invariant-loop decreases-loop → tie.At-loop invariant-loop decreases-loop
+abbrev turn : tie.After-schedule_fits invariant-loop decreases-loop → tie.At-loop-node invariant-loop decreases-loop
 turn c = (counted c).before.before
 
 asked :
-    (c : tie.After-schedule-fits invariant-loop decreases-loop)
-    → let tables = (start (turn c)).args in c.schedule-fits.result ≡ schedule_fits tables.nodes.now tables.counts.now tables.schedules.now (turn c).loop.node
+    (c : tie.After-schedule_fits invariant-loop decreases-loop)
+    → let tables = (start (turn c)).args in c.schedule_fits.result ≡ schedule_fits tables.nodes.now tables.counts.now tables.schedules.now (turn c).loop-node.node
 unfolding schedule_fits
-asked c = rw (← c.before.kind.ensures.0, ← (counted c).schedule-count.ensures.0, ← (turn c).loop.invariant.0.sum) c.schedule-fits.ensures
+asked c = rw (← c.before.kind.ensures.0, ← (counted c).schedule_count-count.ensures.0, ← (turn c).loop-node.invariant.0.sum) c.schedule_fits.ensures
 
-loop-again : tie.Need-loop-preserved invariant-loop decreases-loop
+loop-again : tie.Need-loop-node-preserved invariant-loop decreases-loop
 loop-again c =
-    let fits : tie.After-schedule-fits invariant-loop decreases-loop = c.before in
-    let count = (counted fits).schedule-count.ensures in (
-      sum_before_more _ _ (turn fits).loop.invariant.0 count.0 count.1,
-      passing_step _ (turn fits).loop.invariant.1 (omega arith) (asked fits) c.if2.false,
+    let fits : tie.After-schedule_fits invariant-loop decreases-loop = c.before in
+    let count = (counted fits).schedule_count-count.ensures in (
+      sum_before_more _ _ (turn fits).loop-node.invariant.0 count.0 count.1,
+      passing_step _ (turn fits).loop-node.invariant.1 (omega arith) (asked fits) c.if-not-schedule_fits.false,
     )
 
-returns : tie.Need-returns invariant-loop decreases-loop
+returns : tie.Need-returns-then-schedules-next invariant-loop decreases-loop
 returns c =
-    let count : tie.After-schedule-count invariant-loop decreases-loop = c.before in
-    let here : tie.In-loop invariant-loop decreases-loop = count.before in
-    too_short _ _ _ here.loop-test.true here.before.loop.invariant.0.sum count.schedule-count.ensures.0 c.if1.true
+    let count : tie.After-schedule_count-count invariant-loop decreases-loop = c.before in
+    let here : tie.In-loop-node invariant-loop decreases-loop = count.before in
+    too_short _ _ _ here.loop-node-test.true here.before.loop-node.invariant.0.sum count.schedule_count-count.ensures.0 c.if-schedules-next.true
 
-returns-2 : tie.Need-returns-2 invariant-loop decreases-loop
+returns-2 : tie.Need-returns-then-not-schedule_fits invariant-loop decreases-loop
 unfolding schedules_fit
 returns-2 c =
-    let fits : tie.After-schedule-fits invariant-loop decreases-loop = c.before in
-    one_no _ _ _ (passing_stop _ (counted fits).before.loop-test.true (asked fits) c.if2.true)
+    let fits : tie.After-schedule_fits invariant-loop decreases-loop = c.before in
+    one_no _ _ _ (passing_stop _ (counted fits).before.loop-node-test.true (asked fits) c.if-not-schedule_fits.true)
 
-returns-3 : tie.Need-returns-3 invariant-loop decreases-loop
+returns-3 : tie.Need-returns invariant-loop decreases-loop
 unfolding schedules_fit
 returns-3 c =
-    let here : tie.At-loop invariant-loop decreases-loop = c.before in
+    let here : tie.At-loop-node invariant-loop decreases-loop = c.before in
     let tables = (start here).args in
-    let last : node_count tables.nodes.now ≡ here.loop.node = omega arith in
-    let entries : here.loop.place ≡ place_of tables.nodes.now tables.counts.now (node_count tables.nodes.now) = rw last here.loop.invariant.0.sum in
-    all_asked _ _ _ entries (passing_done _ here.loop.invariant.1 c.loop-test.false)
+    let last : node_count tables.nodes.now ≡ here.loop-node.node = omega arith in
+    let entries : here.loop-node.place ≡ place_of tables.nodes.now tables.counts.now (node_count tables.nodes.now) = rw last here.loop-node.invariant.0.sum in
+    all_asked _ _ _ entries (passing_done _ here.loop-node.invariant.1 c.loop-node-test.false)
 
 pub schedules_right_spec : {M : Type 1} → statement M
 schedules_right_spec =

@@ -3,4 +3,4 @@ use Rattle.valve_setting.proofs.answer_by.Statement.{statement}
 use Rattle.valve_setting.proofs.answer_by.Tie as tie
 
 pub answer_by_spec : {M : Type 1} → statement M
-answer_by_spec = tie.close (tie.spec (λ c. rw c.if1.true) (λ c. rw c.if1.false))
+answer_by_spec = tie.close (tie.spec (λ c. rw c.if-yes.true) (λ c. rw c.if-yes.false))

@@ -9,7 +9,7 @@ use Rattle.valve_setting.proofs.coefficient_for.Tie as tie
 
 returns : tie.Need-returns
 unfolding coefficient_for
-returns c = ap (λ (r : Float). c.before.args.q ⊘ r) c.root-of.ensures
+returns c = ap (λ (r : Float). c.before.args.q ⊘ r) c.root_of.ensures
 
 pub coefficient_for_spec : {M : Type 1} → statement M
 coefficient_for_spec = tie.close (tie.spec (λ c κs. search rules) returns)

@@ -6,7 +6,7 @@ use Rattle.valve_setting.proofs.is_chain_with.Tie as tie
 
 returns : tie.Need-returns
 unfolding is_chain_with
-returns c = rw (c.before.before.is-chain.ensures, c.before.is_finite.ensures, c.is-finite2.ensures)
+returns c = rw (c.before.before.is_chain.ensures, c.before.is_finite.ensures, c.is_finite-2.ensures)
 
 pub is_chain_with_spec : {M : Type 1} → statement M
 is_chain_with_spec = tie.close (tie.spec (λ c κs. search rules) (λ c κs. search rules) (λ c κs. search rules) returns)

@@ -37,23 +37,23 @@ unfolding outlet_head node_in
 outlet_is job ok v = rw (pipes_length job ok) (ap (λ (n : ScheduledNode). head_behind n.kind) v.is ∙ b_of_valve _ _ v.valve)
 
 -- the function's entry
-abbrev start : tie.After-nodes → tie.Start
+abbrev start : tie.After-nodes-nodes → tie.Start
 start c = c.before.before
 
-last_valve : (c : tie.After-pipe-count) → let s = start c.before in EndsWithValve s.args.job.now s.pre.0
+last_valve : (c : tie.After-pipe_count-last) → let s = start c.before in EndsWithValve s.args.job.now s.pre.0
 last_valve c = let s = start c.before in ends_with_valve _ s.pre.0 s.pre.1
 
 -- It stands before the needs of the call, so that of another field the prover tells this first.
 returns : tie.Need-returns
 returns c =
-    let count : tie.After-pipe-count = c.before in
-    (rw (count.before.nodes.ensures, count.pipe-count.ensures.0) at c.f64-at.ensures) ∙ sym (outlet_is _ _ (last_valve count))
+    let count : tie.After-pipe_count-last = c.before in
+    (rw (count.before.nodes-nodes.ensures, count.pipe_count-last.ensures.0) at c.f64_at.ensures) ∙ sym (outlet_is _ _ (last_valve count))
 
-f64-at-requires : tie.Need-f64-at-requires
+f64-at-requires : tie.Need-f64_at-requires
 f64-at-requires c κs =
-    let t = c.before.nodes.ensures in
+    let t = c.before.nodes-nodes.ensures in
     let v = last_valve c in
-    rw (t, c.pipe-count.ensures.0) (omega (arith, v.present), (figures_finite _ (tables_right _ (start c.before).requires.0).nodes.figures _ v.present).b)
+    rw (t, c.pipe_count-last.ensures.0) (omega (arith, v.present), (figures_finite _ (tables_right _ (start c.before).requires.0).nodes-nodes.figures _ v.present).b)
 
 pub outlet_head_spec : {M : Type 1} → statement M
 outlet_head_spec =

@@ -7,7 +7,7 @@ use Rattle.wave.proofs.from_above.Tie as tie
 
 returns : tie.Need-returns
 unfolding from_above
-returns c = rw c.magnitude.ensures refl
+returns c = rw c.magnitude-z.ensures refl
 
 pub from_above_spec : {M : Type 1} → statement M
 from_above_spec = tie.close (tie.spec (λ c κs. search rules) returns)

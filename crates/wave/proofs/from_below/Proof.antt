@@ -6,7 +6,7 @@ use Rattle.wave.proofs.from_below.Tie as tie
 
 returns : tie.Need-returns
 unfolding from_below
-returns c = rw c.magnitude.ensures
+returns c = rw c.magnitude-z.ensures
 
 pub from_below_spec : {M : Type 1} → statement M
 from_below_spec = tie.close (tie.spec (λ c κs. search rules) returns)

@@ -4,7 +4,7 @@ use lib.Ieee.{of_bits, nan_bits}
 use Rattle.wave.proofs.infinity.Statement.{statement}
 use Rattle.wave.proofs.infinity.Tie as tie
 
-float-from-bits-result : tie.Need-float-from-bits-result
+float-from-bits-result : tie.Need-float_from_bits-result
 unfolding nan_bits
 float-from-bits-result c = tt
 

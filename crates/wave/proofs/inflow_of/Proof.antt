@@ -5,13 +5,13 @@ use Rattle.wave.specs.Nodes.{inflow_of}
 use Rattle.wave.proofs.inflow_of.Statement.{statement}
 use Rattle.wave.proofs.inflow_of.Tie as tie
 
-returns : tie.Need-returns
+returns : tie.Need-returns-in-Flow
 unfolding inflow_of
-returns c = rw c.before.q.given.1 refl
+returns c = rw c.before.in-Flow.is refl
 
-returns-2 : tie.Need-returns-2
+returns-2 : tie.Need-returns-in-NotFinite
 unfolding inflow_of
-returns-2 c = rw c.before.enum_told.given.1 c.infinity.ensures
+returns-2 c = rw c.before.in-NotFinite.is c.infinity.ensures
 
 pub inflow_of_spec : {M : Type 1} → statement M
 inflow_of_spec = tie.close (tie.spec (λ c. search rules) (λ c. search rules) (λ c κs. search rules) returns returns-2)

@@ -6,21 +6,21 @@ use Rattle.wave.specs.Nodes.{rooted, pump_argument, lift_flow}
 use Rattle.wave.proofs.lift_flow.Statement.{statement}
 use Rattle.wave.proofs.lift_flow.Tie as tie
 
-returns : tie.Need-returns
+returns : tie.Need-returns-then-is_finite
 unfolding lift_flow pump_argument rooted
 returns c =
     let f = c.before.before in
-    rw (c.root_by.ensures, f.before.if1.true, sym f.is_finite.ensures ∙ c.before.if2.true) refl
+    rw (c.root_by.ensures, f.before.if-y.true, sym f.is_finite.ensures ∙ c.before.if-is_finite.true) refl
 
-returns-2 : tie.Need-returns-2
+returns-2 : tie.Need-returns-else-is_finite
 unfolding lift_flow pump_argument rooted
 returns-2 c =
     let f = c.before in
-    rw (f.before.if1.true, sym f.is_finite.ensures ∙ c.if2.false)
+    rw (f.before.if-y.true, sym f.is_finite.ensures ∙ c.if-is_finite.false)
 
-returns-3 : tie.Need-returns-3
+returns-3 : tie.Need-returns-else-y
 unfolding lift_flow
-returns-3 c = rw c.if1.false
+returns-3 c = rw c.if-y.false
 
 pub lift_flow_spec : {M : Type 1} → statement M
 lift_flow_spec = tie.close (tie.spec (λ c κs. search rules) (λ c κs. search rules) returns returns-2 returns-3)

@@ -3,13 +3,13 @@ use Rattle.wave.specs.Wave.{magnitude}
 use Rattle.wave.proofs.magnitude.Statement.{statement}
 use Rattle.wave.proofs.magnitude.Tie as tie
 
-returns : tie.Need-returns
+returns : tie.Need-returns-then-x
 unfolding magnitude
-returns c = rw c.if1.true
+returns c = rw c.if-x.true
 
-returns-2 : tie.Need-returns-2
+returns-2 : tie.Need-returns-else-x
 unfolding magnitude
-returns-2 c = rw c.if1.false
+returns-2 c = rw c.if-x.false
 
 pub magnitude_spec : {M : Type 1} → statement M
 magnitude_spec = tie.close (tie.spec returns returns-2)

@@ -19,22 +19,22 @@ unfolding orifice_flow
 something_flows w y e = rw e
 
 -- the branches that judge the root come first, so that an edit of the first test is refused where what it lets through is wrong
-returns-3 : tie.Need-returns-3
+returns-3 : tie.Need-returns-else-is_finite
 unfolding orifice_argument rooted
 returns-3 c =
     let f = c.before in
     let s = f.before.before in
-    rw (sym f.is_finite.ensures ∙ c.if2.false) at (something_flows s.args.w s.args.y f.before.if1.false)
+    rw (sym f.is_finite.ensures ∙ c.if-is_finite.false) at (something_flows s.args.w s.args.y f.before.if-y-w.false)
 
-returns-2 : tie.Need-returns-2
+returns-2 : tie.Need-returns-then-is_finite
 unfolding orifice_rate orifice_argument rooted
 returns-2 c =
     let f = c.before.before in
     let s = f.before.before in
-    rw c.root_by.ensures (rw (sym f.is_finite.ensures ∙ c.before.if2.true) at (something_flows s.args.w s.args.y f.before.if1.false))
+    rw c.root_by.ensures (rw (sym f.is_finite.ensures ∙ c.before.if-is_finite.true) at (something_flows s.args.w s.args.y f.before.if-y-w.false))
 
-returns : tie.Need-returns
-returns c = nothing_flows c.before.args.w c.before.args.y c.if1.true
+returns : tie.Need-returns-then-y-w
+returns c = nothing_flows c.before.args.w c.before.args.y c.if-y-w.true
 
 pub orifice_flow_spec : {M : Type 1} → statement M
 orifice_flow_spec = tie.close (tie.spec returns (λ c κs. search rules) (λ c κs. search rules) returns-2 returns-3)

@@ -6,7 +6,7 @@ use Rattle.wave.proofs.pump_flow.Tie as tie
 
 returns : tie.Need-returns
 unfolding pump_flow pump_h pump_y
-returns c = c.lift-flow.ensures
+returns c = c.lift_flow.ensures
 
 pub pump_flow_spec : {M : Type 1} → statement M
 pump_flow_spec = tie.close (tie.spec (λ c κs. search rules) returns)

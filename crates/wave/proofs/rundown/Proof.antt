@@ -14,13 +14,13 @@ below speed e = rw e
 not_below : (speed : Float) → lt speed zero64 ≡ false → speed ≡ cond (lt speed zero64) zero64 speed
 not_below speed e = rw e
 
-returns : tie.Need-returns
+returns : tie.Need-returns-then-next
 unfolding rundown
-returns c = below _ c.if1.true
+returns c = below _ c.if-next.true
 
-returns-2 : tie.Need-returns-2
+returns-2 : tie.Need-returns-else-next
 unfolding rundown
-returns-2 c = not_below _ c.if1.false
+returns-2 c = not_below _ c.if-next.false
 
 pub rundown_spec : {M : Type 1} → statement M
 rundown_spec = tie.close (tie.spec returns returns-2)

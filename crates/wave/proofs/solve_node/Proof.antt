@@ -6,26 +6,26 @@ use Rattle.wave.specs.Nodes.{node_head, node_inflow}
 use Rattle.wave.proofs.solve_node.Statement.{statement}
 use Rattle.wave.proofs.solve_node.Tie as tie
 
-returns : tie.Need-returns
+returns : tie.Need-returns-in-Junction
 unfolding node_head node_inflow
-returns c = rw c.before.before.before.before.n.given.1 (c.judged.ensures, refl)
+returns c = rw c.before.before.before.before.in-Junction.is (c.judged-head.ensures, refl)
 
-returns-2 : tie.Need-returns-2
+returns-2 : tie.Need-returns-in-Reservoir
 unfolding node_head node_inflow
-returns-2 c = rw c.before.before.n2.given.1 (c.judged2.ensures, refl)
+returns-2 c = rw c.before.before.in-Reservoir.is (c.judged-head-in-Reservoir.ensures, refl)
 
-returns-3 : tie.Need-returns-3
+returns-3 : tie.Need-returns-in-Valve
 unfolding node_head node_inflow
 returns-3 c =
     let f = c.before.before in
-    rw (f.before.before.n3.given.1, ← f.valve-flow.ensures, ← c.before.head-less.ensures) (c.judged3.ensures, refl)
+    rw (f.before.before.in-Valve.is, ← f.valve_flow-q.ensures, ← c.before.head_less.ensures) (c.judged-head-in-Valve.ensures, refl)
 
-returns-4 : tie.Need-returns-4
+returns-4 : tie.Need-returns-in-Pump
 unfolding node_head node_inflow
 returns-4 c =
     let j = c.before in
     let f = j.before.before in
-    rw (f.before.before.n4.given.1, ← f.pump-flow.ensures, ← j.before.Head-more.ensures) (j.judged4.ensures, c.inflow-of.ensures)
+    rw (f.before.before.in-Pump.is, ← f.pump_flow-q.ensures, ← j.before.head_more.ensures) (j.judged-head-in-Pump.ensures, c.inflow_of.ensures)
 
 pub solve_node_spec : {M : Type 1} → statement M
 solve_node_spec =

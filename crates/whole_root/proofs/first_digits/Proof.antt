@@ -12,8 +12,8 @@ use Rattle.whole_root.proofs.first_digits.Statement.{statement}
 use Rattle.whole_root.proofs.first_digits.Tie as tie
 
 -- the entry fits 12 digits
-small : (c : tie.After-entry) → c.entry.result < 4096
-small c = let top = c.before.args.top in root_below top c.entry.result 4096 (not_above_top top c.entry.result c.entry.ensures c.before.requires.1) c.before.requires.2
+small : (c : tie.After-entry-t) → c.entry-t.result < 4096
+small c = let top = c.before.args.top in root_below top c.entry-t.result 4096 (not_above_top top c.entry-t.result c.entry-t.ensures c.before.requires.1) c.before.requires.2
 
 -- what the calls of `reaches` answer, together
 counted : (top t a b c d : ℕ) → a ≡ cond (leb ((t + 1) * (t + 1)) top) 1 0 → b ≡ cond (leb ((t + 2) * (t + 2)) top) 1 0
@@ -23,13 +23,13 @@ counted top t a b c d h i j k = omega (arith, h, i, j, k)
 
 returns : tie.Need-returns
 returns c =
-    let three : tie.After-reaches3 = c.before in
-    let two : tie.After-reaches2 = three.before in
-    let one : tie.After-reaches = two.before in
-    let at : tie.After-entry = one.before in
+    let three : tie.After-reaches-three = c.before in
+    let two : tie.After-reaches-two = three.before in
+    let one : tie.After-reaches-one = two.before in
+    let at : tie.After-entry-t = one.before in
     let top = at.before.args.top in
-    let t = at.entry.result in
-    subst (λ (x : ℕ). IsWholeRoot top (t + x)) (counted top t _ _ _ _ one.reaches.ensures.1 two.reaches2.ensures.1 three.reaches3.ensures.1 c.reaches4.ensures.1) (corrected top t at.entry.ensures at.before.requires.1)
+    let t = at.entry-t.result in
+    subst (λ (x : ℕ). IsWholeRoot top (t + x)) (counted top t _ _ _ _ one.reaches-one.ensures.1 two.reaches-two.ensures.1 three.reaches-three.ensures.1 c.reaches-four.ensures.1) (corrected top t at.entry-t.ensures at.before.requires.1)
 
 pub first_digits_spec : {M : Type 1} → statement M
 first_digits_spec =

@@ -85,10 +85,10 @@ finished {n} {down} {twice} {unit} k l = go k.power k.place
         (subst (λ (x : ℕ). LeavesRest n k.root x) (sym s) (record { all = omega (arith, a); small = omega (arith, k.small, e) }))
     go (suc d) e = let f : unit ≡ 2 ^ d * 2 = e ∙ pow-suc 2 d in absurd (omega (arith, f, l, pow_pos d))
 
-abbrev invariant-loop : tie.invariant-loop
+abbrev invariant-loop : tie.invariant-loop-unit
 invariant-loop low down₀ twice₀ unit₀ down twice unit = Kept (twice₀ / 2 * (twice₀ / 2) + down₀ / 2 * unit₀) down twice unit
 
-abbrev decreases-loop : tie.decreases-loop
+abbrev decreases-loop : tie.decreases-loop-unit
 decreases-loop low down₀ twice₀ unit₀ down twice unit = unit
 
 -- at entry: no digit after the first twelve is known
@@ -122,39 +122,39 @@ turned : {n place a b x y : ℕ} (down : ℕ) → x ≡ a → y ≡ b → Kept n
 turned {n} {place} {a} {b} {x} {y} down e f k =
     subst (λ (z : ℕ). Kept n (down * 2 - z) y place) (sym e) (subst (λ (z : ℕ). Kept n (down * 2 - a) z place) (sym f) k)
 
-loop-again : tie.Need-loop-preserved invariant-loop decreases-loop
+loop-again : tie.Need-loop-unit-preserved invariant-loop decreases-loop
 loop-again c =
-    let second : tie.Joined2 invariant-loop decreases-loop = c.before in
-    let first : tie.Joined1 invariant-loop decreases-loop = second.before in
-    let turn : tie.In-loop invariant-loop decreases-loop = first.before in
-    let k = turn.before.loop.invariant in
-    let down = turn.before.loop.twice-rest in
-    let more : 1 < turn.before.loop.unit = omega (arith, turn.loop-test.true) in
+    let second : tie.Joined-trial-twice_rest-2 invariant-loop decreases-loop = c.before in
+    let first : tie.Joined-trial-twice_rest invariant-loop decreases-loop = second.before in
+    let turn : tie.In-loop-unit invariant-loop decreases-loop = first.before in
+    let k = turn.before.loop-unit.invariant in
+    let down = turn.before.loop-unit.twice-rest in
+    let more : 1 < turn.before.loop-unit.unit = omega (arith, turn.loop-unit-test.true) in
     ⊎_elim
     (λ w. ⊎_elim
     (λ v. turned down w.1 v.1 (one_digit k more (omega (arith, w.0))))
     (λ v. absurd (omega (arith, w.0, v.0)))
-    second.if2.branch)
+    second.if-trial-twice_rest-2.branch)
     (λ w. ⊎_elim
     (λ v. absurd (omega (arith, w.0, v.0)))
     (λ v. turned down w.1 v.1 (zero_digit k more w.0.left))
-    second.if2.branch)
-    first.if1.branch
+    second.if-trial-twice_rest-2.branch)
+    first.if-trial-twice_rest.branch
 
 returns : tie.Need-returns invariant-loop decreases-loop
 returns c =
-    let here : tie.At-loop invariant-loop decreases-loop = c.before in
+    let here : tie.At-loop-unit invariant-loop decreases-loop = c.before in
     let a = here.before.before.before.args in
-    subst (λ (n : ℕ). LeavesRest n (here.loop.twice-root / 2) (here.loop.twice-rest / 2)) (is_whole a.first.root a.first.rest a.low) (finished here.loop.invariant c.loop-test.false)
+    subst (λ (n : ℕ). LeavesRest n (here.loop-unit.twice-root / 2) (here.loop-unit.twice-rest / 2)) (is_whole a.first.root a.first.rest a.low) (finished here.loop-unit.invariant c.loop-unit-test.false)
 
 -- what is kept, its double and the trial fit
-bound : (c : tie.In-loop invariant-loop decreases-loop) → (c.before.loop.twice-rest < 2 ^ 56) × (c.before.loop.twice-root + c.before.loop.unit ≤ 2 ^ 54)
+bound : (c : tie.In-loop-unit invariant-loop decreases-loop) → (c.before.loop-unit.twice-rest < 2 ^ 56) × (c.before.loop-unit.twice-root + c.before.loop-unit.unit ≤ 2 ^ 54)
 bound c =
-    let k = c.before.loop.invariant in
-    (omega (arith, k.small, k.short, k.doubled), omega (arith, k.double, k.short, c.loop-test.true))
+    let k = c.before.loop-unit.invariant in
+    (omega (arith, k.small, k.short, k.doubled), omega (arith, k.double, k.short, c.loop-unit-test.true))
 
-sub-twice-rest : tie.Need-overflow-sub-twice-rest invariant-loop decreases-loop
-sub-twice-rest c = ⊎_elim (λ w. omega (arith, w.0, w.1)) (λ w. omega (arith, w.1)) c.before.before.if1.branch
+sub-twice-rest : tie.Need-overflow_sub-twice_rest invariant-loop decreases-loop
+sub-twice-rest c = ⊎_elim (λ w. omega (arith, w.0, w.1)) (λ w. omega (arith, w.1)) c.before.before.if-trial-twice_rest.branch
 
 pub later_digits_spec : {M : Type 1} → statement M
 later_digits_spec =
@@ -172,6 +172,6 @@ later_digits_spec =
     (λ c. omega (arith, (bound c.before.before).1))
     (λ c. omega (arith, (bound c.before.before).0))
     sub-twice-rest
-    (λ c. omega (arith, c.before.before.before.loop-test.true))
+    (λ c. omega (arith, c.before.before.before.loop-unit-test.true))
     loop-again
     returns)

@@ -16,5 +16,5 @@ reaches_spec =
     tie.close
     (tie.spec
     (λ c. record { fits = square_fits c.args.r c.requires })
-    (λ c. (omega arith, sym (ap (λ (b : Bool). cond b 1 0) (le-leb _ _ c.if1.true))))
-    (λ c. (omega arith, sym (ap (λ (b : Bool). cond b 1 0) (lt-leb _ _ c.if1.false)))))
+    (λ c. (omega arith, sym (ap (λ (b : Bool). cond b 1 0) (le-leb _ _ c.if-r-n.true))))
+    (λ c. (omega arith, sym (ap (λ (b : Bool). cond b 1 0) (lt-leb _ _ c.if-r-n.false)))))

@@ -8,12 +8,12 @@ use Rattle.whole_root.proofs.WholeLaws.{root_below}
 use Rattle.whole_root.proofs.whole_root.Statement.{statement}
 use Rattle.whole_root.proofs.whole_root.Tie as tie
 
-later-digits-requires : tie.Need-later-digits-requires
+later-digits-requires : tie.Need-later_digits-requires
 later-digits-requires c κs =
     let top = c.before.args.m / 0x4000_0000 in
-    let is = c.first-digits.ensures in
+    let is = c.first_digits-root.ensures in
     record {
-      short = root_below top c.first-digits.result 4096 is.low (omega arith);
+      short = root_below top c.first_digits-root.result 4096 is.low (omega arith);
       small = omega (arith, is.high);
       room = omega arith;
     }
@@ -25,8 +25,8 @@ again m r l = omega (arith, l)
 returns : tie.Need-returns
 returns c =
     let m = c.before.before.args.m in
-    let first : tie.After-first-digits = c.before in
-    subst (λ (n : ℕ). LeavesRest (n * 2 ^ 52) c.later-digits.result.root c.later-digits.result.rest) (again m first.first-digits.result first.first-digits.ensures.low) c.later-digits.ensures
+    let first : tie.After-first_digits-root = c.before in
+    subst (λ (n : ℕ). LeavesRest (n * 2 ^ 52) c.later_digits.result.root c.later_digits.result.rest) (again m first.first_digits-root.result first.first_digits-root.ensures.low) c.later_digits.ensures
 
 pub whole_root_spec : {M : Type 1} → statement M
 whole_root_spec = tie.close (tie.spec (λ c κs. search rules) (λ c. search rules) (λ c. search rules) later-digits-requires returns)

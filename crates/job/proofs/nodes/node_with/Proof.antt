@@ -11,19 +11,19 @@ use Rattle.job.proofs.nodes.node_with.Tie as tie
 figures : (start : tie.Start) → FiniteFigures start.args.nodes.now start.args.node
 figures start = figures_finite _ start.requires.0 _ start.requires.1
 
-returns-4 : tie.Need-returns-4
+returns-4 : tie.Need-returns-in_default
 unfolding with_value kind_in
 returns-4 c =
     let arm = c.before.before.before in
     let other = arm.match.rest in
     rw (
-      ← arm.before.kind.ensures.0,
+      ← arm.before.kind-k.ensures.0,
       ne_eqb _ _ other.0.0.1,
       ne_eqb _ _ other.0.1,
       ne_eqb _ _ other.1,
-      c.before.before.f64-at3.ensures,
-      c.before.f64-at4.ensures,
-      c.f64-at5.ensures,
+      c.before.before.f64_at-in_default.ensures,
+      c.before.f64_at-in_default-2.ensures,
+      c.f64_at-in_default-3.ensures,
     )
 
 pub node_with_spec : {M : Type 1} → statement M
@@ -43,7 +43,7 @@ node_with_spec =
     (λ c κs. (search rules, (figures c.before.before.before.before).b))
     (λ c. search rules)
     (λ c κs. (search rules, (figures c.before.before.before.before.before).c))
-    (λ c. rw (← c.before.kind.ensures.0, c.match.keys1))
-    (λ c. rw (← c.before.kind.ensures.0, c.match.keys2))
-    (λ c. let arm = c.before.before in rw (← arm.before.kind.ensures.0, arm.match.keys3, c.before.f64-at.ensures, c.f64-at2.ensures))
+    (λ c. rw (← c.before.kind-k.ensures.0, c.in-0.is))
+    (λ c. rw (← c.before.kind-k.ensures.0, c.in-1.is))
+    (λ c. let arm = c.before.before in rw (← arm.before.kind-k.ensures.0, arm.in-2.is, c.before.f64_at.ensures, c.f64_at-in-2.ensures))
     returns-4)

@@ -7,17 +7,17 @@ use borrow.Author.Rules.{rules}
 use Rattle.job.proofs.pairs.optional_table.Statement.{statement}
 use Rattle.job.proofs.pairs.optional_table.Tie as tie
 
-returns : tie.Need-returns
+returns : tie.Need-returns-then-pair_count-k
 returns c =
-    let counted : tie.After-pair-count = c.before.before in
+    let counted : tie.After-pair_count = c.before.before in
     let args = counted.before.before.args in
-    let none : pair_count args.job.now ≤ args.k = rw (← counted.pair-count.ensures.0) c.before.if1.true in
+    let none : pair_count args.job.now ≤ args.k = rw (← counted.pair_count.ensures.0) c.before.if-pair_count-k.true in
     rw (table_none _ _ none)
 
 part-requires : tie.Need-part-requires
 part-requires c κs =
-    let counted : tie.After-pair-count = c.before in
-    (counted.before.before.requires, omega (arith, counted.pair-count.ensures.0, c.if1.false))
+    let counted : tie.After-pair_count = c.before in
+    (counted.before.before.requires, omega (arith, counted.pair_count.ensures.0, c.if-pair_count-k.false))
 
 pub optional_table_spec : {M : Type 1} → statement M
 optional_table_spec =

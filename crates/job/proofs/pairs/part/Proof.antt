@@ -12,17 +12,17 @@ use Rattle.job.proofs.pairs.part.Tie as tie
 pair_within : (c : tie.Start) → (c.args.k < 65536) × (pairs_end c.args.k + 8 ≤ length c.args.job.now)
 pair_within c = let right = pairs_right _ c.requires.0 in omega (arith, c.requires.1, pairs_within _ right.pairs, count_short _ right)
 
-part-result-end : tie.Need-slice-bounds-result-end
+part-result-end : tie.Need-slice_bounds-result-end
 part-result-end c =
     let start : tie.Start = c.before.before.before in
-    let ends : c.before.offset-of.result + c.length-of.result ≤ length start.args.job.now =
-    rw (c.before.offset-of.ensures.0, c.length-of.ensures.0) (table_ends _ (pairs_right _ start.requires.0) _ start.requires.1) in
+    let ends : c.before.offset_of-a.result-1 + c.length_of.result-1 ≤ length start.args.job.now =
+    rw (c.before.offset_of-a.ensures.0, c.length_of.ensures.0) (table_ends _ (pairs_right _ start.requires.0) _ start.requires.1) in
     search rules
 
 returns : tie.Need-returns
 returns c =
     let start : tie.Start = c.before.before.before.before in
-    rw (add-sub_cancel_left, c.before.before.offset-of.ensures.0, c.before.length-of.ensures.0, table_is _ _ start.requires.1)
+    rw (add-sub_cancel_left, c.before.before.offset_of-a.ensures.0, c.before.length_of.ensures.0, table_is _ _ start.requires.1)
 
 pub part_spec : {M : Type 1} → statement M
 part_spec =

@@ -12,33 +12,33 @@ use borrow.Author.Rules.{rules}
 use Rattle.job.proofs.pipes.ends.Statement.{statement}
 use Rattle.job.proofs.pipes.ends.Tie as tie
 
-abbrev invariant-loop : tie.invariant-loop
+abbrev invariant-loop : tie.invariant-loop-at
 invariant-loop pipes count at₀ at = (at.pipe ≤ count) × WalkedTo (pipes_in pipes) at.pipe at.section at.reach × (at.section ≤ at.pipe * 65536)
 
-abbrev decreases-loop : tie.decreases-loop
+abbrev decreases-loop : tie.decreases-loop-at
 decreases-loop pipes count at₀ at = count - at.pipe
 
-past-requires : tie.Need-past-requires invariant-loop decreases-loop
+past-requires : tie.Need-past-at-requires invariant-loop decreases-loop
 past-requires c κs =
-    let loop : tie.At-loop invariant-loop decreases-loop = c.before.before.before in
-    omega (arith, walk_reach loop.loop.invariant.1, loop.loop.invariant.2, c.reaches.ensures.1, loop.before.before.before.requires)
+    let loop : tie.At-loop-at invariant-loop decreases-loop = c.before.before.before in
+    omega (arith, walk_reach loop.loop-at.invariant.1, loop.loop-at.invariant.2, c.reaches.ensures.1, loop.before.before.before.requires)
 
-loop-again : tie.Need-loop-preserved invariant-loop decreases-loop
+loop-again : tie.Need-loop-at-preserved invariant-loop decreases-loop
 loop-again c =
     let read : tie.After-reaches invariant-loop decreases-loop = c.before in
-    let loop : tie.At-loop invariant-loop decreases-loop = read.before.before.before in
-    rw c.past.ensures (
+    let loop : tie.At-loop-at invariant-loop decreases-loop = read.before.before.before in
+    rw c.past-at.ensures (
       search rules,
-      rw read.reaches.ensures.0 (walk_more (pipe_at_lem _ _ read.before.if1.true) loop.loop.invariant.1),
-      omega (arith, loop.loop.invariant.2, read.reaches.ensures.1),
+      rw read.reaches.ensures.0 (walk_more (pipe_at_lem _ _ read.before.loop-at-test.true) loop.loop-at.invariant.1),
+      omega (arith, loop.loop-at.invariant.2, read.reaches.ensures.1),
     )
 
 returns : tie.Need-returns invariant-loop decreases-loop
 unfolding pipes_in
 returns c =
-    let loop : tie.At-loop invariant-loop decreases-loop = c.before.before in
-    let walked = loop.loop.invariant.1 in
-    let passed : length (pipes_in loop.before.before.before.args.pipes.now) ≡ loop.loop.at.pipe = length-listed _ _ ∙ omega arith in
+    let loop : tie.At-loop-at invariant-loop decreases-loop = c.before.before in
+    let walked = loop.loop-at.invariant.1 in
+    let passed : length (pipes_in loop.before.before.before.args.pipes.now) ≡ loop.loop-at.at.pipe = length-listed _ _ ∙ omega arith in
     let all = walk_done passed walked in
     (sym all.0, sym all.1, walk_reach walked, search rules)
 
@@ -49,9 +49,9 @@ ends_spec =
     invariant-loop
     decreases-loop
     (λ c κs. search rules)
-    (λ c. rw c.begun.ensures (search rules, walk_none, search rules))
+    (λ c. rw c.begun-at.ensures (search rules, walk_none, search rules))
     (λ c κs. search rules)
     past-requires
-    (λ c. rw c.past.ensures (search rules))
+    (λ c. rw c.past-at.ensures (search rules))
     loop-again
     returns)

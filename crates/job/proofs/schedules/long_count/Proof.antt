@@ -4,7 +4,7 @@ use Rattle.job.proofs.schedules.long_count.Statement.{statement}
 use Rattle.job.proofs.schedules.long_count.Tie as tie
 
 returns : tie.Need-returns
-returns c = c.u16-at.ensures
+returns c = c.u16_at.ensures
 
 pub long_count_spec : {M : Type 1} → statement M
 long_count_spec = tie.close (tie.spec (λ c. search rules) (λ c κs. search rules) returns)

@@ -11,20 +11,20 @@ use Rattle.job.proofs.schedules.value_at.Statement.{statement}
 use Rattle.job.proofs.schedules.value_at.Tie as tie
 
 -- the function's entry
-abbrev start : tie.After-entry-index → tie.Start
+abbrev start : tie.After-entry_index → tie.Start
 start c = c.before.before
 
 -- the entry is one of the schedule's own
-own : (c : tie.After-entry-index) → c.entry-index.result < (start c).args.count
-own c = omega (arith, c.entry-index.ensures, (start c).requires.0)
+own : (c : tie.After-entry_index) → c.entry_index.result < (start c).args.count
+own c = omega (arith, c.entry_index.ensures, (start c).requires.0)
 
 -- It stands before the needs of the call, so that of another entry the prover tells this first.
 returns : tie.Need-returns
 returns c =
-    let chosen : tie.After-entry-index = c.before in
-    c.f64-at.ensures ∙ sym (entry_of _ _ _ _ (start chosen).requires.1 (start chosen).requires.0 chosen.entry-index.ensures)
+    let chosen : tie.After-entry_index = c.before in
+    c.f64_at.ensures ∙ sym (entry_of _ _ _ _ (start chosen).requires.1 (start chosen).requires.0 chosen.entry_index.ensures)
 
-f64-at-requires : tie.Need-f64-at-requires
+f64-at-requires : tie.Need-f64_at-requires
 unfolding finite_at
 f64-at-requires c κs = (omega (arith, own c, (start c).requires.2), all_at _ _ _ (start c).requires.3 (own c))
 

@@ -11,8 +11,8 @@ constants start = finite_rundown _ _ start.requires.1
 -- It stands before the needs of the calls, so that of a constant read elsewhere the prover tells this first.
 returns : tie.Need-returns
 returns c =
-    let read : tie.After-f64-at3 = c.before in
-    rw (← read.before.before.f64-at.ensures, ← read.before.f64-at2.ensures, ← read.f64-at3.ensures) c.rundown.ensures
+    let read : tie.After-f64_at-t1 = c.before in
+    rw (← read.before.before.f64_at-g.ensures, ← read.before.f64_at-t0.ensures, ← read.f64_at-t1.ensures) c.rundown.ensures
 
 pub rundown_at_spec : {M : Type 1} → statement M
 rundown_at_spec =

@@ -4,7 +4,7 @@ use Rattle.job.proofs.trips.step_of.Statement.{statement}
 use Rattle.job.proofs.trips.step_of.Tie as tie
 
 returns : tie.Need-returns
-returns c = c.u32-at.ensures.0
+returns c = c.u32_at.ensures.0
 
 pub step_of_spec : {M : Type 1} → statement M
 step_of_spec = tie.close (tie.spec (λ c. search rules) (λ c. search rules) (λ c κs. search rules) returns)

@@ -7,12 +7,12 @@ use borrow.Author.Rules.{rules}
 use Rattle.job.proofs.values.head_at.Statement.{statement}
 use Rattle.job.proofs.values.head_at.Tie as tie
 
-f64-at-requires : tie.Need-f64-at-requires
+f64-at-requires : tie.Need-f64_at-requires
 unfolding finite_at
 f64-at-requires c κs = let start = c.before in (search rules, (section_finite _ start.requires.0 _ start.requires.1).head)
 
 returns : tie.Need-returns
-returns c = c.f64-at.ensures ∙ sym (ap (λ (i : Initial). i.head) (section_is _ _ c.before.before.requires.1))
+returns c = c.f64_at.ensures ∙ sym (ap (λ (i : Initial). i.head) (section_is _ _ c.before.before.requires.1))
 
 pub head_at_spec : {M : Type 1} → statement M
 head_at_spec = tie.close (tie.spec (λ c. search rules) f64-at-requires returns)

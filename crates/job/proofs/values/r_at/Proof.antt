@@ -6,9 +6,9 @@ use borrow.Author.Rules.{rules}
 use Rattle.job.proofs.values.r_at.Statement.{statement}
 use Rattle.job.proofs.values.r_at.Tie as tie
 
-f64-at-requires : tie.Need-f64-at-requires
+f64-at-requires : tie.Need-f64_at-requires
 unfolding finite_at
 f64-at-requires c κs = let start = c.before in (search rules, r_finite _ start.requires.0 _ start.requires.1)
 
 pub r_at_spec : {M : Type 1} → statement M
-r_at_spec = tie.close (tie.spec (λ c. search rules) f64-at-requires (λ c. c.f64-at.ensures ∙ sym (r_is _ _ c.before.before.requires.1)))
+r_at_spec = tie.close (tie.spec (λ c. search rules) f64-at-requires (λ c. c.f64_at.ensures ∙ sym (r_is _ _ c.before.before.requires.1)))

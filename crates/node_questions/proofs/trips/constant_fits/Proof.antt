@@ -11,6 +11,6 @@ constant_fits_spec =
     tie.close
     (tie.spec
     (λ c κs. search rules)
-    (λ c κs. (search rules, sym c.before.finite-at.ensures ∙ c.if1.true))
-    (λ c. rw (sym c.before.before.finite-at.ensures ∙ c.before.if1.true) c.not_below_zero_lem.ensures)
-    (λ c. rw (sym c.before.finite-at.ensures ∙ c.if1.false)))
+    (λ c κs. (search rules, sym c.before.finite_at.ensures ∙ c.if-finite_at.true))
+    (λ c. rw (sym c.before.before.finite_at.ensures ∙ c.before.if-finite_at.true) c.not_below_zero_lem.ensures)
+    (λ c. rw (sym c.before.finite_at.ensures ∙ c.if-finite_at.false)))

@@ -8,10 +8,10 @@ use borrow.Author.Rules.{rules}
 use Rattle.node_questions.proofs.trips.each_trip_fits.Statement.{statement}
 use Rattle.node_questions.proofs.trips.each_trip_fits.Tie as tie
 
-abbrev invariant-loop : tie.invariant-loop
+abbrev invariant-loop : tie.invariant-loop-i
 invariant-loop nodes trips n i₀ i = Passing (trip_fits nodes trips) n i
 
-abbrev decreases-loop : tie.decreases-loop
+abbrev decreases-loop : tie.decreases-loop-i
 decreases-loop nodes trips n i₀ i = n - i
 
 pub each_trip_fits_spec : {M : Type 1} → statement M
@@ -22,8 +22,8 @@ each_trip_fits_spec =
     decreases-loop
     (λ c. passing_none _)
     (λ c κs. search rules)
-    (λ c. passing_stop _ c.before.before.loop-test.true c.before.trip-fits.ensures c.if1.true)
+    (λ c. passing_stop _ c.before.before.loop-i-test.true c.before.trip_fits.ensures c.if-not-trip_fits.true)
     (λ c. search rules)
     (λ c. search rules)
-    (λ c. passing_step _ c.before.before.before.loop.invariant (omega arith) c.before.trip-fits.ensures c.if1.false)
-    (λ c. passing_done _ c.before.loop.invariant c.loop-test.false))
+    (λ c. passing_step _ c.before.before.before.loop-i.invariant (omega arith) c.before.trip_fits.ensures c.if-not-trip_fits.false)
+    (λ c. passing_done _ c.before.loop-i.invariant c.loop-i-test.false))

@@ -10,10 +10,10 @@ use borrow.Author.Rules.{rules}
 use Rattle.node_questions.proofs.trips.first_of_node.Statement.{statement}
 use Rattle.node_questions.proofs.trips.first_of_node.Tie as tie
 
-abbrev invariant-loop : tie.invariant-loop
+abbrev invariant-loop : tie.invariant-loop-k
 invariant-loop trips i k₀ k = Passing (λ k. not (eqb (trip_in trips k).node (trip_in trips i).node)) i k
 
-abbrev decreases-loop : tie.decreases-loop
+abbrev decreases-loop : tie.decreases-loop-k
 decreases-loop trips i k₀ k = i - k
 
 pub first_of_node_spec : {M : Type 1} → statement M
@@ -25,8 +25,8 @@ first_of_node_spec =
     decreases-loop
     (λ c. passing_none _)
     (λ c κs. search rules)
-    (λ c. passing_stop _ c.before.before.loop-test.true c.before.nodes-differ.ensures c.if1.true)
+    (λ c. passing_stop _ c.before.before.loop-k-test.true c.before.nodes_differ.ensures c.if-not-nodes_differ.true)
     (λ c. search rules)
     (λ c. search rules)
-    (λ c. passing_step _ c.before.before.before.loop.invariant (omega arith) c.before.nodes-differ.ensures c.if1.false)
-    (λ c. passing_done _ c.before.loop.invariant c.loop-test.false))
+    (λ c. passing_step _ c.before.before.before.loop-k.invariant (omega arith) c.before.nodes_differ.ensures c.if-not-nodes_differ.false)
+    (λ c. passing_done _ c.before.loop-k.invariant c.loop-k-test.false))

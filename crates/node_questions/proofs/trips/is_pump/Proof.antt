@@ -12,5 +12,5 @@ is_pump_spec =
     tie.close
     (tie.spec
     (λ c κs. search rules)
-    (λ c. rw (lt-ltb _ _ c.before.if1.true, c.kind.ensures.0) refl)
-    (λ c. rw (le_ltb _ _ c.if1.false) refl))
+    (λ c. rw (lt-ltb _ _ c.before.if-y-n.true, c.kind.ensures.0) refl)
+    (λ c. rw (le_ltb _ _ c.if-y-n.false) refl))

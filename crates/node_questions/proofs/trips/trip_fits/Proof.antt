@@ -15,5 +15,5 @@ trip_fits_spec =
     (λ c κs. search rules)
     (λ c κs. search rules)
     (λ c.
-    rw (c.before.before.is-pump.ensures, c.before.before.before.node_of.ensures, c.before.first-of-node.ensures, c.rundown-fits.ensures)
+    rw (c.before.before.is_pump.ensures, c.before.before.before.node_of.ensures, c.before.first_of_node.ensures, c.rundown_fits.ensures)
     refl))

@@ -7,4 +7,4 @@ use Rattle.node_questions.proofs.trips.trips_fit.Tie as tie
 
 pub trips_fit_spec : {M : Type 1} → statement M
 unfolding trips_fit
-trips_fit_spec = tie.close (tie.spec (λ c κs. search rules) (λ c. rw c.each-trip-fits.ensures refl))
+trips_fit_spec = tie.close (tie.spec (λ c κs. search rules) (λ c. rw c.each_trip_fits.ensures refl))

@@ -7,41 +7,41 @@ use borrow.Author.Rules.{rules}
 use Rattle.reader.proofs.pairs.first_no.Statement.{statement}
 use Rattle.reader.proofs.pairs.first_no.Tie as tie
 
-returns : tie.Need-returns
+returns : tie.Need-returns-then-not-size_fits
 unfolding pair_questions first_no
-returns c = rw (is_no c.before.size_fits.ensures c.if1.true)
+returns c = rw (is_no c.before.size_fits.ensures c.if-not-size_fits.true)
 
-pairs-fit-requires : tie.Need-pairs-fit-requires
-pairs-fit-requires c κs = omega (arith, size_least _ (is_yes c.before.size_fits.ensures c.if1.false))
+pairs-fit-requires : tie.Need-pairs_fit-requires
+pairs-fit-requires c κs = omega (arith, size_least _ (is_yes c.before.size_fits.ensures c.if-not-size_fits.false))
 
-returns-2 : tie.Need-returns-2
+returns-2 : tie.Need-returns-then-not-pairs_fit
 unfolding pair_questions first_no
 returns-2 c =
-    let sized : tie.Else1 = c.before.before in
-    rw (is_yes sized.before.size_fits.ensures sized.if1.false, is_no c.before.pairs-fit.ensures c.if2.true)
+    let sized : tie.Else-not-size_fits = c.before.before in
+    rw (is_yes sized.before.size_fits.ensures sized.if-not-size_fits.false, is_no c.before.pairs_fit.ensures c.if-not-pairs_fit.true)
 
-tables-follow-requires : tie.Need-tables-follow-requires
-tables-follow-requires c κs = pairs_within _ (is_yes c.before.pairs-fit.ensures c.if2.false)
+tables-follow-requires : tie.Need-tables_follow-follow-requires
+tables-follow-requires c κs = pairs_within _ (is_yes c.before.pairs_fit.ensures c.if-not-pairs_fit.false)
 
-listing-steps-requires : tie.Need-listing-steps-requires
+listing-steps-requires : tie.Need-listing_steps-few_steps-requires
 listing-steps-requires c κs =
-    let sized : tie.Else1 = c.before.before.before in
-    omega (arith, size_least _ (is_yes sized.before.size_fits.ensures sized.if1.false))
+    let sized : tie.Else-not-size_fits = c.before.before.before in
+    omega (arith, size_least _ (is_yes sized.before.size_fits.ensures sized.if-not-size_fits.false))
 
-returns-3 : tie.Need-returns-3
+returns-3 : tie.Need-returns
 unfolding pair_questions first_no steps_fit
 returns-3 c =
-    let asked : tie.After-listing-steps = c.before.before in
-    let paired : tie.Else2 = asked.before.before in
-    let sized : tie.Else1 = paired.before.before in
+    let asked : tie.After-listing_steps-few_steps = c.before.before in
+    let paired : tie.Else-not-pairs_fit = asked.before.before in
+    let sized : tie.Else-not-size_fits = paired.before.before in
     rw (
-      is_yes sized.before.size_fits.ensures sized.if1.false,
-      is_yes paired.before.pairs-fit.ensures paired.if2.false,
-      ← asked.before.tables-follow.ensures,
-      ← asked.listing-steps.ensures,
+      is_yes sized.before.size_fits.ensures sized.if-not-size_fits.false,
+      is_yes paired.before.pairs_fit.ensures paired.if-not-pairs_fit.false,
+      ← asked.before.tables_follow-follow.ensures,
+      ← asked.listing_steps-few_steps.ensures,
       ← c.before.decide.ensures,
     )
-    c.decide2.ensures
+    c.decide-2.ensures
 
 pub first_no_spec : {M : Type 1} → statement M
 first_no_spec =

@@ -12,4 +12,4 @@ pairs_fit_spec =
     (tie.spec
     (λ c κs. search rules)
     (λ c κs. search rules)
-    (λ c. rw (c.pairs-end.ensures, c.before.pair-count.ensures.0) refl))
+    (λ c. rw (c.pairs_end.ensures, c.before.pair_count-n.ensures.0) refl))

@@ -7,4 +7,4 @@ use Rattle.reader.proofs.pairs.size_fits.Tie as tie
 
 pub size_fits_spec : {M : Type 1} → statement M
 unfolding size_fits
-size_fits_spec = tie.close (tie.spec (λ c κs. search rules) (λ c. rw c.pairs-end.ensures refl))
+size_fits_spec = tie.close (tie.spec (λ c κs. search rules) (λ c. rw c.pairs_end.ensures refl))

@@ -6,9 +6,9 @@ use borrow.Author.Rules.{rules}
 use Rattle.reader.proofs.pipes.constant_fits.Statement.{statement}
 use Rattle.reader.proofs.pipes.constant_fits.Tie as tie
 
-s-of-requires : tie.Need-s-of-requires
+s-of-requires : tie.Need-s_of-requires
 unfolding finite_at
-s-of-requires c κs = (search rules, sym c.before.finite-at.ensures ∙ c.if1.true)
+s-of-requires c κs = (search rules, sym c.before.finite_at.ensures ∙ c.if-finite_at.true)
 
 pub constant_fits_spec : {M : Type 1} → statement M
 unfolding constant_fits finite_at
@@ -19,5 +19,5 @@ constant_fits_spec =
     (λ c. search rules)
     (λ c κs. search rules)
     s-of-requires
-    (λ c. rw (c.s-of.ensures, sym c.before.before.finite-at.ensures ∙ c.before.if1.true))
-    (λ c. rw (sym c.before.finite-at.ensures ∙ c.if1.false)))
+    (λ c. rw (c.s_of.ensures, sym c.before.before.finite_at.ensures ∙ c.before.if-finite_at.true))
+    (λ c. rw (sym c.before.finite_at.ensures ∙ c.if-finite_at.false)))

@@ -8,10 +8,10 @@ use borrow.Author.Rules.{rules}
 use Rattle.reader.proofs.pipes.constants_fit.Statement.{statement}
 use Rattle.reader.proofs.pipes.constants_fit.Tie as tie
 
-abbrev invariant-loop : tie.invariant-loop
+abbrev invariant-loop : tie.invariant-loop-p
 invariant-loop pipes n p₀ p = Passing (λ p. constant_fits (pipe_in pipes p)) n p
 
-abbrev decreases-loop : tie.decreases-loop
+abbrev decreases-loop : tie.decreases-loop-p
 decreases-loop pipes n p₀ p = n - p
 
 pub constants_fit_spec : {M : Type 1} → statement M
@@ -23,8 +23,8 @@ constants_fit_spec =
     decreases-loop
     (λ c. passing_none _)
     (λ c κs. search rules)
-    (λ c. passing_stop _ c.before.before.loop-test.true c.before.constant_fits_lem.ensures c.if1.true)
+    (λ c. passing_stop _ c.before.before.loop-p-test.true c.before.constant_fits_lem.ensures c.if-not-constant_fits.true)
     (λ c. search rules)
     (λ c. search rules)
-    (λ c. passing_step _ c.before.before.before.loop.invariant (omega arith) c.before.constant_fits_lem.ensures c.if1.false)
-    (λ c. passing_done _ c.before.loop.invariant c.loop-test.false))
+    (λ c. passing_step _ c.before.before.before.loop-p.invariant (omega arith) c.before.constant_fits_lem.ensures c.if-not-constant_fits.false)
+    (λ c. passing_done _ c.before.loop-p.invariant c.loop-p-test.false))

@@ -13,4 +13,4 @@ joins_spec =
     (λ c κs. search rules)
     (λ c κs. search rules)
     (λ c κs. search rules)
-    (λ c. rw (c.before.before.start.ensures.0, c.before.finish.ensures.0, c.reaches.ensures.0) refl))
+    (λ c. rw (c.before.before.start-a.ensures.0, c.before.finish-b.ensures.0, c.reaches-n.ensures.0) refl))

@@ -8,10 +8,10 @@ use borrow.Author.Rules.{rules}
 use Rattle.reader.proofs.pipes.pipes_join.Statement.{statement}
 use Rattle.reader.proofs.pipes.pipes_join.Tie as tie
 
-abbrev invariant-loop : tie.invariant-loop
+abbrev invariant-loop : tie.invariant-loop-p
 invariant-loop pipes count n p₀ p = Passing (λ p. joins count (pipe_in pipes p)) n p
 
-abbrev decreases-loop : tie.decreases-loop
+abbrev decreases-loop : tie.decreases-loop-p
 decreases-loop pipes count n p₀ p = n - p
 
 pub pipes_join_spec : {M : Type 1} → statement M
@@ -23,8 +23,8 @@ pipes_join_spec =
     decreases-loop
     (λ c. passing_none _)
     (λ c κs. search rules)
-    (λ c. passing_stop _ c.before.before.loop-test.true c.before.joins.ensures c.if1.true)
+    (λ c. passing_stop _ c.before.before.loop-p-test.true c.before.joins.ensures c.if-not-joins.true)
     (λ c. search rules)
     (λ c. search rules)
-    (λ c. passing_step _ c.before.before.before.loop.invariant (omega arith) c.before.joins.ensures c.if1.false)
-    (λ c. passing_done _ c.before.loop.invariant c.loop-test.false))
+    (λ c. passing_step _ c.before.before.before.loop-p.invariant (omega arith) c.before.joins.ensures c.if-not-joins.false)
+    (λ c. passing_done _ c.before.loop-p.invariant c.loop-p-test.false))

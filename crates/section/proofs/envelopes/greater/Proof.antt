@@ -5,13 +5,13 @@ use Rattle.recurrence.specs.Step.{raised}
 use Rattle.section.proofs.envelopes.greater.Statement.{statement}
 use Rattle.section.proofs.envelopes.greater.Tie as tie
 
-returns : tie.Need-returns
+returns : tie.Need-returns-then-highest-head
 unfolding raised
-returns c = let a = c.before.args in ap (λ (b : Bool). cond b a.head a.highest) (sym c.if1.true)
+returns c = let a = c.before.args in ap (λ (b : Bool). cond b a.head a.highest) (sym c.if-highest-head.true)
 
-returns-2 : tie.Need-returns-2
+returns-2 : tie.Need-returns-else-highest-head
 unfolding raised
-returns-2 c = let a = c.before.args in ap (λ (b : Bool). cond b a.head a.highest) (sym c.if1.false)
+returns-2 c = let a = c.before.args in ap (λ (b : Bool). cond b a.head a.highest) (sym c.if-highest-head.false)
 
 pub greater_spec : {M : Type 1} → statement M
 greater_spec = tie.close (tie.spec returns returns-2)

@@ -6,10 +6,10 @@ use lib.ListN.{length}
 use Rattle.surgelist.proofs.input.read_all.Statement.{statement}
 use Rattle.surgelist.proofs.input.read_all.Tie as tie
 
-abbrev invariant-loop : tie.invariant-loop
+abbrev invariant-loop : tie.invariant-loop-at
 invariant-loop bytes₀ at₀ bytes at = (at ≤ length bytes) × (length bytes ≡ length bytes₀)
 
-abbrev decreases-loop : tie.decreases-loop
+abbrev decreases-loop : tie.decreases-loop-at
 decreases-loop bytes₀ at₀ bytes at = length bytes - at
 
 pub read_all_spec : {M : Type 1} → statement M

@@ -9,25 +9,25 @@ use Rattle.surgelist.proofs.listing_of.run.Tie as tie
 
 -- the function's entry, and where the start and the run_on have been done
 abbrev entry : tie.After-start → tie.Start
-entry c = let lent : tie.After-slice-known7 = c.before.before.before.before.before.before.before.before in lent.before.before.before.before.before.before.before.before
+entry c = let lent : tie.After-slice_known-7-1 = c.before.before.before.before.before.before.before.before in lent.before.before.before.before.before.before.before.before
 
-abbrev started : tie.After-run-on → tie.After-start
+abbrev started : tie.After-run_on → tie.After-start
 started c =
-    let lent : tie.After-slice-known14 = c.before.before.before.before.before.before.before.before in
-    let speeds : tie.After-speeds = lent.before.before.before.before.before in
-    let highest : tie.After-highest = speeds.before.before.before.before in
+    let lent : tie.After-slice_known-14-1 = c.before.before.before.before.before.before.before.before in
+    let speeds : tie.After-speeds-1 = lent.before.before.before.before.before in
+    let highest : tie.After-highest-1 = speeds.before.before.before.before in
     highest.before.before.before.before.before
 
-abbrev ran : tie.After-slice-known21 → tie.After-run-on
+abbrev ran : tie.After-slice_known-21-1 → tie.After-run_on
 ran c =
-    let speeds : tie.After-speeds2 = c.before.before.before.before.before in
-    let highest : tie.After-highest2 = speeds.before.before.before.before in
+    let speeds : tie.After-speeds-2-1 = c.before.before.before.before.before in
+    let highest : tie.After-highest-2-1 = speeds.before.before.before.before in
     highest.before.before.before.before.before
 
 long_started : (c : tie.After-start) → Long (rows_left c.start.new.1)
 long_started c = let l = (entry c).requires.1 in let k = c.start.auto.1 in omega arith
 
-long_ran : (c : tie.After-run-on) → Long (rows_left c.run_on.new.1.1.1)
+long_ran : (c : tie.After-run_on) → Long (rows_left c.run_on.new.1.1.1)
 long_ran c = let l = long_started (started c) in let k = c.run_on.auto.1.1.1 in omega arith
 
 returns : tie.Need-returns

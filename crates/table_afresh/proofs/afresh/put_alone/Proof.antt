@@ -13,9 +13,9 @@ four c = places_bound 3 c.args.n c.requires.0
 
 returns : tie.Need-returns
 returns c =
-    let line : tie.After-put-newline = c.before.before in
-    let number : tie.After-put-decimal = line.before.before.before.before in
-    (joined number.put-decimal.ensures.0 line.put-newline.ensures.0, omega (arith, four number.before.before.before))
+    let line : tie.After-put_newline = c.before.before in
+    let number : tie.After-put_decimal-next = line.before.before.before.before in
+    (joined number.put_decimal-next.ensures.0 line.put_newline.ensures.0, omega (arith, four number.before.before.before))
 
 pub put_alone_spec : {M : Type 1} → statement M
 put_alone_spec = tie.close (tie.spec (λ c κs. omega (arith, four c.before.before)) (λ c κs. omega (arith, four c.before.before.before.before.before.before)) (λ c. search rules) returns)

@@ -5,17 +5,17 @@ use Rattle.whole_root.proofs.WholeLaws.{root_below}
 use Rattle.table_afresh.proofs.afresh.root_from.Statement.{statement}
 use Rattle.table_afresh.proofs.afresh.root_from.Tie as tie
 
-abbrev invariant-loop : tie.invariant-loop
+abbrev invariant-loop : tie.invariant-loop-root
 invariant-loop t n root₀ root = root * root ≤ n
 
-abbrev decreases-loop : tie.decreases-loop
+abbrev decreases-loop : tie.decreases-loop-root
 decreases-loop t n root₀ root = n - root * root
 
-small : (c : tie.At-loop invariant-loop decreases-loop) → c.loop.root < 4096
-small c = root_below c.before.args.n c.loop.root 4096 c.loop.invariant c.before.requires.1
+small : (c : tie.At-loop-root invariant-loop decreases-loop) → c.loop-root.root < 4096
+small c = root_below c.before.args.n c.loop-root.root 4096 c.loop-root.invariant c.before.requires.1
 
 returns : tie.Need-returns invariant-loop decreases-loop
-returns c = record { low = c.before.loop.invariant; high = c.loop-test.false }
+returns c = record { low = c.before.loop-root.invariant; high = c.loop-root-test.false }
 
 pub root_from_spec : {M : Type 1} → statement M
 root_from_spec =
@@ -26,8 +26,8 @@ root_from_spec =
     (λ c. c.requires.0)
     (λ c. omega (arith, small c))
     (λ c. omega (arith, small c))
-    (λ c. omega (arith, small c, c.before.requires.1, c.loop.invariant))
+    (λ c. omega (arith, small c, c.before.requires.1, c.loop-root.invariant))
     (λ c. omega (arith, small c.before))
-    (λ c. omega (arith, c.loop-test.true))
-    (λ c. c.loop-test.true)
+    (λ c. omega (arith, c.loop-root-test.true))
+    (λ c. c.loop-root-test.true)
     returns)

@@ -15,11 +15,11 @@ use Rattle.table_afresh.specs.TableText.{entry_line, table_text}
 use Rattle.table_afresh.proofs.afresh.write_table.Statement.{statement}
 use Rattle.table_afresh.proofs.afresh.write_table.Tie as tie
 
-abbrev invariant-loop : tie.invariant-loop
+abbrev invariant-loop : tie.invariant-loop-k
 invariant-loop out₀ at₀ root₀ k₀ out at root k =
     (k ≤ 768) × (at ≤ k * 5) × (length out ≡ length out₀) × (root * root ≤ 16384 * (256 + k)) × Written out₀ 0 (lines_text entry_line k) out at
 
-abbrev decreases-loop : tie.decreases-loop
+abbrev decreases-loop : tie.decreases-loop-k
 decreases-loop out₀ at₀ root₀ k₀ out at root k = 768 - k
 
 module _ {old new : List ℕ} {at next : ℕ} where
@@ -29,28 +29,28 @@ module _ {old new : List ℕ} {at next : ℕ} where
   all_lines : {n : ℕ} → n ≡ 768 → Written old at (lines_text entry_line n) new next → Written old at table_text new next
   all_lines q w = subst (λ (x : ℕ). Written old at (lines_text entry_line x) new next) q w
 
-loop-again : tie.Need-loop-preserved invariant-loop decreases-loop
+loop-again : tie.Need-loop-k-preserved invariant-loop decreases-loop
 unfolding lines_text
 loop-again c =
-    let line : tie.After-put-alone invariant-loop decreases-loop = c.before.before in
-    let entry : tie.After-root-from invariant-loop decreases-loop = line.before.before in
-    let here : tie.At-loop invariant-loop decreases-loop = entry.before.before in
-    let inv = here.loop.invariant in
-    let k = here.loop.k in
-    let right = the_entry k entry.root-from.result entry.before.loop-test.true entry.root-from.ensures in
-    let stored = line_of right line.put_alone.ensures.0 in
-    (omega arith, omega (arith, inv.1, line.put_alone.ensures.1), omega arith, omega (arith, entry.root-from.ensures.low), rw (add-one k) (joined inv.4 stored))
+    let line : tie.After-put_alone-at invariant-loop decreases-loop = c.before.before in
+    let entry : tie.After-root_from-root invariant-loop decreases-loop = line.before.before in
+    let here : tie.At-loop-k invariant-loop decreases-loop = entry.before.before in
+    let inv = here.loop-k.invariant in
+    let k = here.loop-k.k in
+    let right = the_entry k entry.root_from-root.result entry.before.loop-k-test.true entry.root_from-root.ensures in
+    let stored = line_of right line.put_alone-at.ensures.0 in
+    (omega arith, omega (arith, inv.1, line.put_alone-at.ensures.1), omega arith, omega (arith, entry.root_from-root.ensures.low), rw (add-one k) (joined inv.4 stored))
 
-small : (c : tie.After-root-from invariant-loop decreases-loop) → c.root-from.result < 4096
+small : (c : tie.After-root_from-root invariant-loop decreases-loop) → c.root_from-root.result < 4096
 small c =
-    let k = c.before.before.loop.k in
-    root_below (16384 * (256 + k)) c.root-from.result 4096 c.root-from.ensures.low (omega (arith, c.before.loop-test.true))
+    let k = c.before.before.loop-k.k in
+    root_below (16384 * (256 + k)) c.root_from-root.result 4096 c.root_from-root.ensures.low (omega (arith, c.before.loop-k-test.true))
 
 returns : tie.Need-returns invariant-loop decreases-loop
 returns c =
-    let last : tie.At-loop invariant-loop decreases-loop = c.before in
-    let all : last.loop.k ≡ 768 = omega (arith, last.loop.invariant.0, c.loop-test.false) in
-    at_front (all_lines all last.loop.invariant.4) (omega (arith, last.loop.invariant.1, last.loop.invariant.0))
+    let last : tie.At-loop-k invariant-loop decreases-loop = c.before in
+    let all : last.loop-k.k ≡ 768 = omega (arith, last.loop-k.invariant.0, c.loop-k-test.false) in
+    at_front (all_lines all last.loop-k.invariant.4) (omega (arith, last.loop-k.invariant.1, last.loop-k.invariant.0))
 
 pub write_table_spec : {M : Type 1} → statement M
 unfolding lines_text
@@ -62,7 +62,7 @@ write_table_spec =
     (λ c. (omega arith, omega arith, refl, omega arith, record { bytes = refl; after = refl }))
     (λ c. omega arith)
     (λ c. omega arith)
-    (λ c κs. (c.before.loop.invariant.3, omega (arith, c.loop-test.true)))
+    (λ c κs. (c.before.loop-k.invariant.3, omega (arith, c.loop-k-test.true)))
     (λ c κs. (omega (arith, small c.before), omega arith))
     (λ c. omega arith)
     (λ c. omega arith)

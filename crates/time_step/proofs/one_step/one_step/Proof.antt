@@ -17,95 +17,95 @@ use Rattle.time_step.proofs.one_step.one_step.Tie as tie
 
 -- from each place to the one before it: where the call starts, where the values are read, where the ends are in the spare, where the sections are committed,
 -- and that the check found nothing
-abbrev begin : tie.After-slice-known10 → tie.Start
+abbrev begin : tie.After-slice_known-10-1 → tie.Start
 begin c = c.before.before.before.before.before.before.before.before.before.before.before
 
-abbrev values : tie.After-write-ends → tie.After-values-at
-values c = let lent : tie.After-slice-known11 = c.before.before.before.before.before.before.before in lent.before.before
+abbrev values : tie.After-write_ends → tie.After-values_at
+values c = let lent : tie.After-slice_known-11-1 = c.before.before.before.before.before.before.before in lent.before.before
 
-abbrev ends : tie.After-check → tie.After-write-ends
-ends c = let spare : tie.After-spare = c.before.before.before.before.before in spare.before.before.before.before.before
+abbrev ends : tie.After-check-found → tie.After-write_ends
+ends c = let spare : tie.After-spare-1 = c.before.before.before.before.before in spare.before.before.before.before.before
 
-abbrev start : tie.After-write-ends → tie.Start
+abbrev start : tie.After-write_ends → tie.Start
 start c = begin (values c).before.before.before.before
 
 abbrev committed : tie.After-write-pairs-arg4 → tie.After-commit
-committed c = let lowest : tie.After-lowest = c.before.before.before.before.before in lowest.before.before.before.before.before.before.before
+committed c = let lowest : tie.After-lowest-1 = c.before.before.before.before.before in lowest.before.before.before.before.before.before.before
 
-abbrev clear : tie.After-commit → tie.Else1
+abbrev clear : tie.After-commit → tie.Else-stops
 clear c = c.before.before.before.before.before.before
 
 -- the values of this step, from the pairs that the rows hold: said by itself, so that of another step or row the prover tells both
-valued : (c : tie.After-write-ends)
+valued : (c : tie.After-write_ends)
     → let a = (start c).args in
-    OverNodes a.job.now (value_from a.job.now (a.done + 1) a.speeds.now a.inflows.now) (values c).values-at.new.1.1.1.1.0
-valued c = (values c).values-at.ensures
+    OverNodes a.job.now (value_from a.job.now (a.done + 1) a.speeds-1.now a.inflows-1.now) (values c).values_at.new.1.1.1.1.0
+valued c = (values c).values_at.ensures
 
-returns : tie.Need-returns
+returns : tie.Need-returns-then-stops
 returns c =
-    let found : tie.After-check = c.before.before in
+    let found : tie.After-check-found = c.before.before in
     let e = ends found in
-    one_stops _ _ _ (start e).pre.0.1 _ (valued e) _ (found.check.ensures _ e.write-ends.ensures.1) _ e.write-ends.ensures.2
-    (sym c.before.stops.ensures ∙ c.if1.true)
+    one_stops _ _ _ (start e).pre.0.1 _ (valued e) _ (found.check-found.ensures _ e.write_ends.ensures.1) _ e.write_ends.ensures.2
+    (sym c.before.stops.ensures ∙ c.if-stops.true)
 
 -- It stands before what the calls ask, so that of exchanged rows the prover tells this first.
-returns-2 : tie.Need-returns-2
+returns-2 : tie.Need-returns
 returns-2 c =
-    let stored : tie.After-write-pairs = c.before.before.before.before in
+    let stored : tie.After-write_pairs = c.before.before.before.before in
     let done = committed stored.before in
     let sound = clear done in
-    let found : tie.After-check = sound.before.before in
+    let found : tie.After-check-found = sound.before.before in
     let e = ends found in
     let a = (start e).args in
-    let left = stored.write-pairs.new.1.1.1 in
-    let pairs : PairsLeft a.job.now (values e).values-at.last.1.1.1.1.0 e.write-ends.last.1.1.1.1.1.1.1.0 a.speeds.now a.inflows.now left.0 left.1.0 =
-    stored.write-pairs.ensures in
-    let scanned = found.check.ensures _ e.write-ends.ensures.1 in
-    one_done _ _ _ (start e).pre.0.1 _ (valued e) _ scanned _ e.write-ends.ensures.2 (sym sound.before.stops.ensures ∙ sound.if1.left)
-    (done.commit.ensures _ e.write-ends.ensures.1) e.write-ends.ensures.0 pairs
+    let left = stored.write_pairs.new.1.1.1 in
+    let pairs : PairsLeft a.job.now (values e).values_at.last.1.1.1.1.0 e.write_ends.last.1.1.1.1.1.1.1.0 a.speeds-1.now a.inflows-1.now left.0 left.1.0 =
+    stored.write_pairs.ensures in
+    let scanned = found.check-found.ensures _ e.write_ends.ensures.1 in
+    one_done _ _ _ (start e).pre.0.1 _ (valued e) _ scanned _ e.write_ends.ensures.2 (sym sound.before.stops.ensures ∙ sound.if-stops.left)
+    (done.commit.ensures _ e.write_ends.ensures.1) e.write_ends.ensures.0 pairs
 
 -- the three rows for the nodes hold 32 entries, which is enough
-values-at-requires : tie.Need-values-at-requires
+values-at-requires : tie.Need-values_at-requires
 values-at-requires c κs =
     let pre = (begin c.before.before.before).requires in
     let r = pre.0.1 in
     ((r.accepted, search rules, omega (arith, few_nodes _ r.accepted, pre.1.0)), pairs_long r)
 
-write-ends-requires : tie.Need-write-ends-requires
+write-ends-requires : tie.Need-write_ends-requires
 write-ends-requires c κs =
-    let lent : tie.After-slice-known11 = c.before.before.before.before.before.before in
-    let read : tie.After-values-at = lent.before.before in
+    let lent : tie.After-slice_known-11-1 = c.before.before.before.before.before.before in
+    let read : tie.After-values_at = lent.before.before in
     let pre = (begin read.before.before.before.before).requires in
-    ((pre.0.0, rows_lent pre.0.1, pre.0.3, spare_long pre.0.1), (omega (arith, pre.1.0, read.values-at.auto), pre.1.1, pre.1.2))
+    ((pre.0.0, rows_lent pre.0.1, pre.0.3, spare_long pre.0.1), (omega (arith, pre.1.0, read.values_at.auto), pre.1.1, pre.1.2))
 
 -- the spare as the ends leave it is as long as it was
-spare_kept : (c : tie.After-write-ends) → let job = (start c).args.job.now in pipe_count (pipe_table job) * 4 ≤ length c.write-ends.new.1.1.1.1.1.1.1.1.0
-spare_kept c = omega (arith, spare_long (start c).requires.0.1, c.write-ends.auto.1.1.1.1.1.1.1.1.0)
+spare_kept : (c : tie.After-write_ends) → let job = (start c).args.job.now in pipe_count (pipe_table job) * 4 ≤ length c.write_ends.new.1.1.1.1.1.1.1.1.0
+spare_kept c = omega (arith, spare_long (start c).requires.0.1, c.write_ends.auto.1.1.1.1.1.1.1.1.0)
 
-check-requires : tie.Need-check-requires
+check-requires : tie.Need-check-found-requires
 check-requires c κs =
-    let spare : tie.After-spare = c.before.before.before.before in
-    let e : tie.After-write-ends = spare.before.before.before.before.before in
+    let spare : tie.After-spare-1 = c.before.before.before.before in
+    let e : tie.After-write_ends = spare.before.before.before.before.before in
     (rows_lent (start e).requires.0.1, spare_kept e)
 
 commit-requires : tie.Need-commit-requires
 commit-requires c κs =
-    let sound : tie.Else1 = c.before.before.before.before.before in
+    let sound : tie.Else-stops = c.before.before.before.before.before in
     let e = ends sound.before.before in
     let r = (start e).pre.0.1 in
     ((rows_lent r, spare_kept e), (ready_enough r highest, ready_enough r lowest))
 
-write-pairs-requires : tie.Need-write-pairs-requires
+write-pairs-requires : tie.Need-write_pairs-requires
 write-pairs-requires c κs =
     let e = ends (clear (committed c)).before.before in
     let r = (start e).pre.0.1 in
-    ((r.accepted, (values e).values-at.ensures.long, e.write-ends.ensures.0.long), pairs_long r)
+    ((r.accepted, (values e).values_at.ensures.long, e.write_ends.ensures.0.long), pairs_long r)
 
 -- the row of values is as long as it was; a longer path than `search` follows
-same-values : tie.Need-same-length-9
+same-values : tie.Need-shape_of-values
 same-values c =
-    let stored : tie.After-write-pairs = c.before.before.before.before in
-    (values (ends (clear (committed stored.before)).before.before)).values-at.auto.1.1.1.1.0
+    let stored : tie.After-write_pairs = c.before.before.before.before in
+    (values (ends (clear (committed stored.before)).before.before)).values_at.auto.1.1.1.1.0
 
 pub one_step_spec : {M : Type 1} → statement M
 one_step_spec =

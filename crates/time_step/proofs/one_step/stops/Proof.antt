@@ -4,15 +4,15 @@ use Rattle.time_step.specs.StepsInRows.{stops}
 use Rattle.time_step.proofs.one_step.stops.Statement.{statement}
 use Rattle.time_step.proofs.one_step.stops.Tie as tie
 
-returns : tie.Need-returns
+returns : tie.Need-returns-in-Sound
 unfolding stops
 returns c = search rules
 
-returns-2 : tie.Need-returns-2
+returns-2 : tie.Need-returns-in-NotFinite
 unfolding stops
 returns-2 c = search rules
 
-returns-3 : tie.Need-returns-3
+returns-3 : tie.Need-returns-in-Parted
 unfolding stops
 returns-3 c = search rules
 

@@ -5,21 +5,21 @@ use Rattle.wave.specs.Nodes.{judged}
 use Rattle.wave.proofs.Sums.judged.Statement.{statement}
 use Rattle.wave.proofs.Sums.judged.Tie as tie
 
-returns : tie.Need-returns
+returns : tie.Need-returns-then-is_finite-2
 unfolding judged
 returns c =
     let f = c.before in
-    rw (sym f.before.before.is_finite.ensures ∙ f.before.if1.true, sym f.is-finite2.ensures ∙ c.if2.true)
+    rw (sym f.before.before.is_finite.ensures ∙ f.before.if-is_finite.true, sym f.is_finite-then-is_finite.ensures ∙ c.if-is_finite-2.true)
 
-returns-2 : tie.Need-returns-2
+returns-2 : tie.Need-returns-else-is_finite-2
 unfolding judged
 returns-2 c =
     let f = c.before.before in
-    rw (sym f.before.before.is_finite.ensures ∙ f.before.if1.true, sym f.is-finite2.ensures ∙ c.before.if2.false) c.infinity.ensures
+    rw (sym f.before.before.is_finite.ensures ∙ f.before.if-is_finite.true, sym f.is_finite-then-is_finite.ensures ∙ c.before.if-is_finite-2.false) c.infinity.ensures
 
-returns-3 : tie.Need-returns-3
+returns-3 : tie.Need-returns-else-is_finite
 unfolding judged
-returns-3 c = rw (sym c.before.before.is_finite.ensures ∙ c.before.if1.false) c.infinity2.ensures
+returns-3 c = rw (sym c.before.before.is_finite.ensures ∙ c.before.if-is_finite.false) c.infinity-else-is_finite.ensures
 
 pub judged_spec : {M : Type 1} → statement M
 judged_spec =
