@@ -78,6 +78,16 @@ def turn_code(text, table):
     return WORD.sub(lambda m: table.get(m[0], m[0]), text)
 
 
+def imported(text, own):
+    """What a file takes from the libraries: names that stay."""
+    names = set()
+    for m in re.finditer(r"^(?:pub )?use ([^\s{]+)\.\{([^}]*)\}", text, re.M):
+        words = m[1].split(".")
+        if words[0] != "Rattle" or words[1] not in own:
+            names |= {n.strip().split(" as ")[0] for n in m[2].split(",")}
+    return names
+
+
 def turn_antt(text, table):
     out = []
     for line in text.split("\n"):
@@ -147,10 +157,13 @@ def main(root):
     table = spellings(root)
     if "newIn" not in table:
         raise SystemExit("respell: the names are turned already")
+    own = set(os.listdir(os.path.join(root, "crates")))
     for path in files(root, (".antt", ".rt")):
         with open(path, encoding="utf-8") as f:
             text = f.read()
-        turned = (turn_antt if path.endswith(".antt") else turn_rt)(text, table)
+        stay = imported(text, own) if path.endswith(".antt") else set()
+        here_table = {k: v for k, v in table.items() if k not in stay}
+        turned = (turn_antt if path.endswith(".antt") else turn_rt)(text, here_table)
         if turned != text:
             with open(path, "w", encoding="utf-8") as f:
                 f.write(turned)

@@ -5,7 +5,7 @@ use mathlib.Core.Bool.{Bool, true, false, cond, true≢false}
 use Prim.Native.Nat.{ℕ, zero, suc, ◌+◌, ◌-◌, ◌*◌, ◌≤◌, ◌<◌, zero-le}
 use native.Mathlib.Nat.{le_refl, le_trans, le_of_eq, le-add_right, sub-le, sub-zero, zero-mul, mul_comm, mul_assoc, mul_left_comm, mul-pos, mul-le-mul_right}
 use native.Mathlib.Omega.{arith}
-use borrow.Author.Tests.{ltb-false, lt-ltb, le_ltb}
+use borrow.Author.Tests.{ltb-false, lt-ltb, le-ltb}
 use lib.IntN.{ℤ, pos}
 use lib.Dec.{T, ltb, eqb-suc-zero}
 use lib.Ieee.{Float, nan, inf, fin, Format, binary64, up, down, round, neg, sum, sub, mul, div, lt, fits, of_bits, below}
@@ -66,7 +66,7 @@ module _ (f : Format) (m : ℕ) (e d : ℤ) (t : T (fits f (fin false m e))) whe
   -- less -0, with the sign set: of two that are -0 the sum is +0, which is not above -0
   set_less_zero : lt (fin true m e) (sum f true A false 0 C) ≡ false
   unfolding sum lt
-  set_less_zero = rw (le_ltb A 0 zero-le, sub-zero) (go m refl)
+  set_less_zero = rw (le-ltb A 0 zero-le, sub-zero) (go m refl)
     where
       go : (k : ℕ) → m ≡ k → lt (fin true m e) (round f (ltb 0 A) A C) ≡ false
       go zero z = rw (z, zero-mul (up e), zero-mul (down d), round_none f false C c_pos) (rw (zero-mul (up e), zero-mul (down e)) refl)
@@ -140,24 +140,24 @@ drop_not_below R Q S r q s =
 module _ (a p b q c r : ℕ) (Q : 0 < q) where
   falls : (s t u : Bool) → below s (a * q) t (b * p) ≡ false → below t (b * r) u (c * q) ≡ false → below s (a * r) u (c * p) ≡ false
   falls false t true h k = refl
-  falls false false false h k = le_ltb (a * r) (c * p) (through c b a r q p Q (ltb-false (b * r) (c * q) k) (ltb-false (a * q) (b * p) h))
+  falls false false false h k = le-ltb (a * r) (c * p) (through c b a r q p Q (ltb-false (b * r) (c * q) k) (ltb-false (a * q) (b * p) h))
   falls false true false h k =
       let z = ltb-false 0 (b * r + c * q) k in
-      le_ltb (a * r) (c * p) (through c 0 a r q p Q (omega arith) (omega arith))
+      le-ltb (a * r) (c * p) (through c 0 a r q p Q (omega arith) (omega arith))
   falls true false false h k =
       let z = ltb-false 0 (a * q + b * p) h in
       let x = through a 0 0 p q r Q (omega arith) (omega arith) in
       let y = through c b 0 r q p Q (ltb-false (b * r) (c * q) k) (omega arith) in
-      le_ltb 0 (a * r + c * p) (omega arith)
+      le-ltb 0 (a * r + c * p) (omega arith)
   falls true false true h k =
       let z = ltb-false 0 (a * q + b * p) h in
-      le_ltb (c * p) (a * r) (through a 0 c p q r Q (omega arith) (omega arith))
+      le-ltb (c * p) (a * r) (through a 0 c p q r Q (omega arith) (omega arith))
   falls true true false h k =
       let z = ltb-false 0 (b * r + c * q) k in
       let x = through a b 0 p q r Q (ltb-false (b * p) (a * q) h) (omega arith) in
       let y = through c 0 0 r q p Q (omega arith) (omega arith) in
-      le_ltb 0 (a * r + c * p) (omega arith)
-  falls true true true h k = le_ltb (c * p) (a * r) (through a b c p q r Q (ltb-false (b * p) (a * q) h) (ltb-false (c * q) (b * r) k))
+      le-ltb 0 (a * r + c * p) (omega arith)
+  falls true true true h k = le-ltb (c * p) (a * r) (through a b c p q r Q (ltb-false (b * p) (a * q) h) (ltb-false (c * q) (b * r) k))
 
 -- Where y, finite, is not above x, and z not above y, z is not above x: x, y and z as fractions, each order multiplied by the third's lower number.
 pub not_above_trans : (x y z : Float) → finite y ≡ true → lt x y ≡ false → lt y z ≡ false → lt x z ≡ false
@@ -179,5 +179,5 @@ unfolding lt
 not_above_itself nan = refl
 not_above_itself (inf true) = refl
 not_above_itself (inf false) = refl
-not_above_itself (fin true m e) = le_ltb (m * up e * down e) (m * up e * down e) (le_refl _)
-not_above_itself (fin false m e) = le_ltb (m * up e * down e) (m * up e * down e) (le_refl _)
+not_above_itself (fin true m e) = le-ltb (m * up e * down e) (m * up e * down e) (le_refl _)
+not_above_itself (fin false m e) = le-ltb (m * up e * down e) (m * up e * down e) (le_refl _)

@@ -3,9 +3,9 @@
 use mathlib.Core.Path.{◌≡◌, refl, sym, ap, ◌∙◌, subst}
 use mathlib.Core.Bool.{Bool, true, false, ◌&&◌, cond}
 use Prim.Native.Nat.{ℕ, zero, suc, ◌+◌, ◌-◌, ◌*◌, ◌/◌, ◌%◌, ◌^◌, ◌≤◌, ◌<◌, zero-le}
-use native.Mathlib.Nat.{le_of_eq, lt_of_lt_of_le, not_le_of_lt, add-zero, sub-zero, zero-mul, mul-one, mul_comm, mul_assoc, mul_right_comm, eq_of_mul-eq-mul_right, mul-lt-mul_of_pos_right, lt_of_mul_lt_mul_right}
+use native.Mathlib.Nat.{le_of_eq, lt_of_lt_of_le, not-le_of_lt, add-zero, sub-zero, zero-mul, mul-one, mul_comm, mul_assoc, mul_right_comm, eq_of_mul-eq-mul_right, mul-lt-mul_of_pos_right, lt_of_mul-lt-mul_right}
 use native.Mathlib.Omega.{arith}
-use borrow.Author.Tests.{le_ltb}
+use borrow.Author.Tests.{le-ltb}
 use lib.IntN.{ℤ, pos, negsuc}
 use lib.Dec.{T, ltb, leb, eqb, ltb→lt, leb→le}
 use lib.Pow.{pow-add, pow_pos, pow-lt}
@@ -26,7 +26,7 @@ pub record Placed (f : Format) (m : ℕ) (e : ℤ) : Type 0 where
 
 pow_back : {a b : ℕ} → 2 ^ a ≤ 2 ^ b → a ≤ b
 pow_back {a} {b} h =
-    let n : b < a → ⊥ = λ l. not_le_of_lt (pow-lt l) h in
+    let n : b < a → ⊥ = λ l. not-le_of_lt (pow-lt l) h in
     omega (arith, n)
 
 places : (l : ℕ) (e : ℤ) → down e ≤ 2 ^ l → (j : ℕ) × ((m : ℕ) → m * up e * 2 ^ l ≡ m * 2 ^ j * down e)
@@ -43,7 +43,7 @@ places l (negsuc k) h =
 -- A / a is u / 2 ^ l, and A / a is below 2 ^ c
 under : (A a u l c : ℕ) → A * 2 ^ l ≡ u * a → A < 2 ^ c * a → u < 2 ^ (l + c)
 under A a u l c e h =
-    lt_of_mul_lt_mul_right a
+    lt_of_mul-lt-mul_right a
     (lt_of_lt_of_le (subst (λ (x : ℕ). x < 2 ^ c * a * 2 ^ l) e (mul-lt-mul_of_pos_right h (pow_pos l)))
     (le_of_eq (mul_right_comm (2 ^ c) a (2 ^ l) ∙ ap (λ (x : ℕ). x * a) (mul_comm (2 ^ c) (2 ^ l) ∙ sym (pow-add 2 l c)))))
 
@@ -110,7 +110,7 @@ round_own f s m e t =
 less_none : (f : Format) (s : Bool) (a c : ℕ) → sum f s a true 0 c ≡ round f s a c
 unfolding sum
 less_none f true a c = ap (λ (x : ℕ). round f true x c) (add-zero a)
-less_none f false a c = rw (le_ltb a 0 zero-le, sub-zero) refl
+less_none f false a c = rw (le-ltb a 0 zero-le, sub-zero) refl
 
 pub sub_plus_zero : (f : Format) (x : Float) → T (fits f x) → sub f x (fin false 0 (pos 0)) ≡ x
 unfolding sub

@@ -3,7 +3,7 @@ use mathlib.Core.Path.{◌≡◌, refl, sym, ap, ◌∙◌}
 use mathlib.Core.Bool.{Bool, true, false, ◌&&◌, ◌||◌, cond, true≢false}
 use Prim.Native.Nat.{ℕ, zero, suc, ◌+◌, ◌*◌, ◌^◌, ◌≤◌, ◌<◌}
 use native.Mathlib.Nat.{le_of_eq, le_of_lt, lt_of_not-le, add_comm}
-use borrow.Author.Tests.{le_ltb}
+use borrow.Author.Tests.{le-ltb}
 use lib.IntN.{ℤ}
 use lib.Dec.{T, ltb, eqb, ltb→lt, eqb→eq}
 use lib.Ieee.{Float, nan, inf, fin, Format, prec, emax, low, up, down, odd, units, round, neg, fits, lt, le}
@@ -60,7 +60,7 @@ unfolding le lt
 not_below m e nan s t = refl
 not_below m e (inf u) s t = s
 not_below m e (fin true k j) s t = absurd (true≢false s)
-not_below m e (fin false k j) s t = le_ltb (k * up j * down e) (m * up e * down j) (of_le (m * up e * down j) (k * up j * down e) t)
+not_below m e (fin false k j) s t = le-ltb (k * up j * down e) (m * up e * down j) (of_le (m * up e * down j) (k * up j * down e) t)
 
 not_above : (m : ℕ) (e : ℤ) (r : Float) → Signed false r → T (le r (fin false m e)) → lt (fin false m e) r ≡ false
 unfolding le lt
@@ -68,7 +68,7 @@ not_above m e nan s t = refl
 not_above m e (inf true) s t = refl
 not_above m e (inf false) s t = absurd t
 not_above m e (fin true k j) s t = absurd (true≢false s)
-not_above m e (fin false k j) s t = le_ltb (m * up e * down j) (k * up j * down e) (of_le (k * up j * down e) (m * up e * down j) t)
+not_above m e (fin false k j) s t = le-ltb (m * up e * down j) (k * up j * down e) (of_le (k * up j * down e) (m * up e * down j) t)
 
 -- ---- a fraction rounded, and a value that fits, both with the sign clear
 

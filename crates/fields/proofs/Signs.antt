@@ -4,7 +4,7 @@ use mathlib.Core.Path.{◌≡◌, refl, sym, ap, subst, ◌∙◌}
 use mathlib.Core.Bool.{Bool, true, false, not, cond, true≢false}
 use Prim.Native.Nat.{ℕ, zero, suc, ◌+◌, ◌*◌, ◌^◌, zero-le}
 use native.Mathlib.Nat.{zero-mul}
-use borrow.Author.Tests.{le_ltb}
+use borrow.Author.Tests.{le-ltb}
 use lib.IntN.{pos}
 use lib.Dec.{ltb, eqb}
 use lib.Ieee.{Float, nan, inf, fin, Format, prec, emax, low, up, down, unlike, odd, units, round, add, mul, div, lt}
@@ -109,7 +109,7 @@ unfolding lt
 not_below_zero_lem nan h = refl
 not_below_zero_lem (inf s) h = h
 not_below_zero_lem (fin true m e) h = absurd (true≢false h)
-not_below_zero_lem (fin false m e) h = rw (zero-mul (down e)) (le_ltb (m * up e * 1) 0 zero-le)
+not_below_zero_lem (fin false m e) h = rw (zero-mul (down e)) (le-ltb (m * up e * 1) 0 zero-le)
 
 -- ---- against the other sign
 

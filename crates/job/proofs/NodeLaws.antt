@@ -8,7 +8,7 @@ use lib.ListN.{length, get_or}
 use lib.Dec.{leb, ltb, eqb}
 use lib.Ieee.{Float}
 use lib.Ieee.Scale.{finite}
-use borrow.Author.Tests.{leb-true, eqb-true, eq-eqb, ne_eqb, lt-ltb, le_ltb}
+use borrow.Author.Tests.{leb-true, eqb-true, eq-eqb, ne_eqb, lt-ltb, le-ltb}
 use Rattle.fields.specs.Real.{zero64}
 use Rattle.fields.specs.Finite.{finite_at}
 use Rattle.loops.proofs.All.{all_at, all_both, all_of}
@@ -106,7 +106,7 @@ module _ (schedules : List ℕ) (kind place count : ℕ) where
     any_finite l = half_holds _ _ (halves ∙ rw (lt-ltb kind 2 l)) h
 
     pub as_ranged : {t : Bool} → 2 ≤ kind → t ≡ ranged → t ≡ fitting
-    as_ranged l e = e ∙ half_holds _ _ (halves ∙ rw (le_ltb kind 2 l)) h
+    as_ranged l e = e ∙ half_holds _ _ (halves ∙ rw (le-ltb kind 2 l)) h
 
   fitting_finite : fitting ≡ true → numbers_finite schedules place count ≡ true
   fitting_finite h = (both (numbers_finite schedules place count) _ (sym halves ∙ h)).0

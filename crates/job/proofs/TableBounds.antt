@@ -7,7 +7,7 @@ use native.Mathlib.Omega.{arith}
 use native.Mathlib.Nat.{le_refl}
 use lib.ListN.{length, take, drop, length-take, length-drop}
 use lib.Dec.{leb, ltb}
-use borrow.Author.Tests.{leb-true, eqb-true, lt-ltb, le_ltb}
+use borrow.Author.Tests.{leb-true, eqb-true, lt-ltb, le-ltb}
 use Rattle.loops.specs.Loops.{all_below}
 use Rattle.loops.proofs.All.{all_at}
 use Rattle.loops.proofs.Tests.{both}
@@ -82,7 +82,7 @@ table_is job k l = rw (lt-ltb k (pair_count job) l)
 
 pub table_none : (job : List ℕ) (k : ℕ) → pair_count job ≤ k → table job k ≡ []
 unfolding table
-table_none job k l = rw (le_ltb k (pair_count job) l)
+table_none job k l = rw (le-ltb k (pair_count job) l)
 
 pub table_short : (job : List ℕ) → size_fits job ≡ true → (k : ℕ) → length (table job k) ≤ 32768
 unfolding table

@@ -5,7 +5,7 @@ use Prim.Native.Nat.{ℕ, zero, suc, ◌+◌, ◌-◌, ◌/◌, ◌%◌, ◌^◌
 use native.Mathlib.Nat.{pow-suc, div-lt_iff_lt-mul}
 use native.Mathlib.Decide.{dec_lt}
 use native.Mathlib.Omega.{arith}
-use borrow.Author.Tests.{lt-ltb, le_ltb}
+use borrow.Author.Tests.{lt-ltb, le-ltb}
 use lib.ListN.{length, set, length-append}
 use lib.Seq.{sets}
 use Rattle.listing_text.specs.Text.{digit, digits, places_within, places}
@@ -33,7 +33,7 @@ within_few (suc k) n h = rw (lt-ltb n 10 h)
 
 within_more : (k n : ℕ) → 10 ≤ n → places_within (suc k) n ≡ suc (places_within k (n / 10))
 unfolding places_within
-within_more k n h = rw (le_ltb n 10 h)
+within_more k n h = rw (le-ltb n 10 h)
 
 -- any number from n on ends the recursion alike
 within_enough : (k j n : ℕ) → n ≤ k → n ≤ j → places_within k n ≡ places_within j n

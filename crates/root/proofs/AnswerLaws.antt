@@ -2,7 +2,7 @@
 use mathlib.Core.Path.{◌≡◌, refl, sym, ap, ap₂, ◌∙◌, subst}
 use Prim.Native.Nat.{ℕ, zero, suc, ◌+◌, ◌-◌, ◌*◌, ◌/◌, ◌%◌, ◌^◌, ◌≤◌, ◌<◌}
 use mathlib.Core.Logic.{⊎_elim}
-use native.Mathlib.Nat.{not_le_of_lt, eq-or-lt_of_le, mul_assoc, pow-succ'}
+use native.Mathlib.Nat.{not-le_of_lt, eq-or-lt_of_le, mul_assoc, pow-succ'}
 use native.Mathlib.Omega.{arith}
 use mathlib.Core.Bool.{Bool, true, false, not, cond, true≢false}
 use lib.Dec.{T, ltb, not_T, ltb→lt}
@@ -42,7 +42,7 @@ pub high_answer : (x : Float) → T (fits binary64 x) → 0x7ff0_0000_0000_0000 
 unfolding root_of div of_bits
 high_answer nan f h n = refl
 high_answer (inf s) f h n = refl
-high_answer (fin false m e) f h n = absurd (not_le_of_lt (plus_pattern m e f) h)
+high_answer (fin false m e) f h n = absurd (not-le_of_lt (plus_pattern m e f) h)
 high_answer (fin true zero e) f h n = absurd (n (minus_zero_pattern e))
 high_answer (fin true (suc m) e) f h n = rw (minus_not_rootable m e)
 

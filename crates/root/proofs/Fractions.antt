@@ -1,7 +1,7 @@
 -- A fraction as so many of one unit, 1 / L: sums, squares and the order of fractions are those of their counts of units. Assumes nothing.
 use mathlib.Core.Path.{◌≡◌, sym, ap, ap₂, ◌∙◌}
 use Prim.Native.Nat.{ℕ, ◌+◌, ◌*◌, ◌≤◌, ◌<◌}
-use native.Mathlib.Nat.{le_trans, le_of_eq, lt_of_le_of_lt, lt_of_lt_of_le, add_comm, add-mul, mul_comm, mul_assoc, mul_right_comm, mul-mul-mul_comm, mul-pos, mul-le-mul_right, le_of_mul_le_mul_right, mul-lt-mul_of_pos_right, lt_of_mul_lt_mul_right, eq_of_mul-eq-mul_right}
+use native.Mathlib.Nat.{le_trans, le_of_eq, lt_of_le_of_lt, lt_of_lt_of_le, add_comm, add-mul, mul_comm, mul_assoc, mul_right_comm, mul-mul-mul_comm, mul-pos, mul-le-mul_right, le_of_mul-le-mul_right, mul-lt-mul_of_pos_right, lt_of_mul-lt-mul_right, eq_of_mul-eq-mul_right}
 use Rattle.root.specs.Fractions.{Fraction, sum_of, square_of, four_times, Below, AtMost, Equal}
 
 -- f is u / L
@@ -41,19 +41,19 @@ module _ (f g : Fraction) (L u v : ℕ) (p : Scaled f L u) (q : Scaled g L v) wh
 
   pub units_below : 0 < L → Below f g → u < v
   units_below l h =
-      lt_of_mul_lt_mul_right (f.denominator * g.denominator) (lt_of_le_of_lt (le_of_eq (sym left_side)) (lt_of_lt_of_le (mul-lt-mul_of_pos_right h l) (le_of_eq right_side)))
+      lt_of_mul-lt-mul_right (f.denominator * g.denominator) (lt_of_le_of_lt (le_of_eq (sym left_side)) (lt_of_lt_of_le (mul-lt-mul_of_pos_right h l) (le_of_eq right_side)))
 
   pub below_units : 0 < f.denominator → 0 < g.denominator → u < v → Below f g
   below_units a b h =
-      lt_of_mul_lt_mul_right L (lt_of_le_of_lt (le_of_eq left_side) (lt_of_lt_of_le (mul-lt-mul_of_pos_right h (mul-pos a b)) (le_of_eq (sym right_side))))
+      lt_of_mul-lt-mul_right L (lt_of_le_of_lt (le_of_eq left_side) (lt_of_lt_of_le (mul-lt-mul_of_pos_right h (mul-pos a b)) (le_of_eq (sym right_side))))
 
   pub at_most_units : 0 < f.denominator → 0 < g.denominator → 0 < L → u ≤ v → AtMost f g
   at_most_units a b l h =
-      le_of_mul_le_mul_right (le_trans (le_of_eq left_side) (le_trans (mul-le-mul_right (f.denominator * g.denominator) h) (le_of_eq (sym right_side)))) l
+      le_of_mul-le-mul_right (le_trans (le_of_eq left_side) (le_trans (mul-le-mul_right (f.denominator * g.denominator) h) (le_of_eq (sym right_side)))) l
 
   pub units_at_most : 0 < f.denominator → 0 < g.denominator → AtMost f g → u ≤ v
   units_at_most a b h =
-      le_of_mul_le_mul_right (le_trans (le_of_eq (sym left_side)) (le_trans (mul-le-mul_right L h) (le_of_eq right_side))) (mul-pos a b)
+      le_of_mul-le-mul_right (le_trans (le_of_eq (sym left_side)) (le_trans (mul-le-mul_right L h) (le_of_eq right_side))) (mul-pos a b)
 
   pub units_equal : 0 < f.denominator → 0 < g.denominator → Equal f g → u ≡ v
   units_equal a b h = eq_of_mul-eq-mul_right (f.denominator * g.denominator) (mul-pos a b) u v (sym left_side ∙ ap (λ (x : ℕ). x * L) h ∙ right_side)

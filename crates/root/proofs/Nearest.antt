@@ -5,7 +5,7 @@ use mathlib.Core.Path.{◌≡◌, refl, sym, ap, ◌∙◌, subst}
 use mathlib.Core.Logic.{◌⊎◌, inl, inr, ⊎_elim}
 use mathlib.Core.Bool.{Bool, true, false, not}
 use Prim.Native.Nat.{ℕ, zero, suc, ◌+◌, ◌-◌, ◌*◌, ◌^◌, ◌≤◌, ◌<◌}
-use native.Mathlib.Nat.{le_trans, le_of_eq, le_of_lt, lt_of_lt_of_le, lt_of_le_of_lt, lt_irrefl, not-suc-le-zero, zero-lt-suc, zero-mul, add-mul, mul_assoc, mul-mul-mul_comm, mul-pos, mul-le-mul, mul-le-mul_right, mul-lt-mul_of_pos_right, lt_of_mul_lt_mul_right}
+use native.Mathlib.Nat.{le_trans, le_of_eq, le_of_lt, lt_of_lt_of_le, lt_of_le_of_lt, lt_irrefl, not-suc-le-zero, zero-lt-suc, zero-mul, add-mul, mul_assoc, mul-mul-mul_comm, mul-pos, mul-le-mul, mul-le-mul_right, mul-lt-mul_of_pos_right, lt_of_mul-lt-mul_right}
 use native.Mathlib.Omega.{arith}
 use lib.IntN.{pos}
 use lib.Dec.{T, ltb, ltb→lt, nltb→le}
@@ -42,7 +42,7 @@ pub greater_multiple : (k n m i : ℕ) → 2 ^ 52 ≤ n → m < 2 ^ 53 → n * 2
 greater_multiple k n m i N M h =
     ⊎_elim
     (λ s. absurd (lt_irrefl (m * 2 ^ i) (lt_of_lt_of_le s (le_trans (mul-le-mul_right (2 ^ k) N) (le_of_lt h)))))
-    (λ e. (e.0, lt_of_mul_lt_mul_right (2 ^ k) (subst (λ (x : ℕ). n * 2 ^ k < x) e.1 h), e.1))
+    (λ e. (e.0, lt_of_mul-lt-mul_right (2 ^ k) (subst (λ (x : ℕ). n * 2 ^ k < x) e.1 h), e.1))
     (below_or_multiple k m i M)
 
 -- ---- a value v beside w * 2 ^ k, where w is nearest the root of c
@@ -64,7 +64,7 @@ module _ (k c w : ℕ) (C : 2 ^ 104 ≤ c) (W : 2 ^ 52 ≤ w) (N : IsNearestRoot
       multiple : ((a : ℕ) × (v ≡ a * 2 ^ k)) → both < 4 * (c * 4 ^ k)
       multiple e =
           let a = e.0 in
-          let l : a < w = lt_of_mul_lt_mul_right (2 ^ k) (subst (λ (x : ℕ). x < w * 2 ^ k) e.1 h) in
+          let l : a < w = lt_of_mul-lt-mul_right (2 ^ k) (subst (λ (x : ℕ). x < w * 2 ^ k) e.1 h) in
           rw e.1 (rw (sum_squared k a w) (rw (sym (mul_assoc 4 c (4 ^ k))) (mul-lt-mul_of_pos_right (middle_below c w a N l) (four_pos k))))
 
   more : w * 2 ^ k < v → 4 * (c * 4 ^ k) < both

@@ -4,7 +4,7 @@
 use mathlib.Core.Path.{◌≡◌, refl, sym, ap, ◌∙◌, subst}
 use mathlib.Core.Bool.{Bool, true, false, not, cond, true≢false}
 use Prim.Native.Nat.{ℕ, ◌+◌, ◌*◌, ◌/◌, ◌^◌, ◌≤◌, ◌<◌}
-use native.Mathlib.Nat.{le_of_lt, lt_of_le_of_lt, not_le_of_lt, ne_of_lt, mul-pos, mul-le-mul, mul-le-mul_right, mul-lt-mul_of_pos_right}
+use native.Mathlib.Nat.{le_of_lt, lt_of_le_of_lt, not-le_of_lt, ne_of_lt, mul-pos, mul-le-mul, mul-le-mul_right, mul-lt-mul_of_pos_right}
 use native.Mathlib.Omega.{arith}
 use lib.IntN.{ℤ}
 use lib.Dec.{T, ltb, ltb→lt, nltb→le}
@@ -161,10 +161,10 @@ is_root_of x r f i = same_value r w i.value (may x A) (neither ((exact r).numera
     swap = ap square_of (sum_swapped (exact w) (exact r))
 
     less : Below (exact r) (exact w) → ⊥
-    less b = not_le_of_lt (nearer_below x A r i.value b) (subst (λ m. AtMost (twice_root_squared x) m) swap (i.above w (may x A) b))
+    less b = not-le_of_lt (nearer_below x A r i.value b) (subst (λ m. AtMost (twice_root_squared x) m) swap (i.above w (may x A) b))
 
     more : Below (exact w) (exact r) → ⊥
-    more b = not_le_of_lt (nearer_above x A r i.value b) (subst (λ m. AtMost m (twice_root_squared x)) swap (i.below w (may x A) b))
+    more b = not-le_of_lt (nearer_above x A r i.value b) (subst (λ m. AtMost m (twice_root_squared x)) swap (i.below w (may x A) b))
 
 pub one_root_only : (x r q : Float) → T (fits binary64 x) → IsRoot x r → IsRoot x q → r ≡ q
 one_root_only x r q f i j = is_root_of x r f i ∙ sym (is_root_of x q f j)
@@ -207,11 +207,11 @@ no_midway x p q f a n e = go (ltb P w) (ltb→lt P w) (nltb→le P w)
     go : (b : Bool) → (T b → P < w) → (T (not b) → w ≤ P) → ⊥
     go true l g =
         let s : P + Q ≤ P + w = omega (arith, reaches (l tt)) in
-        not_le_of_lt (A.root.less v.digits v.place v.short (l tt)) (subst (λ (y : ℕ). y ≤ (P + w) * (P + w)) same (mul-le-mul s s))
+        not-le_of_lt (A.root.less v.digits v.place v.short (l tt)) (subst (λ (y : ℕ). y ≤ (P + w) * (P + w)) same (mul-le-mul s s))
     go false l g =
         let r : P < Q = units_below (exact p) (exact q) (2 ^ 1074) P Q v.scaled o.scaled (pow_pos 1074) n.rising in
         let s : Q + w ≤ P + Q = omega (arith, g tt) in
-        not_le_of_lt (A.root.more o.digits o.place o.short (lt_of_le_of_lt (g tt) r)) (subst (λ (y : ℕ). (Q + w) * (Q + w) ≤ y) same (mul-le-mul s s))
+        not-le_of_lt (A.root.more o.digits o.place o.short (lt_of_le_of_lt (g tt) r)) (subst (λ (y : ℕ). (Q + w) * (Q + w) ≤ y) same (mul-le-mul s s))
 
 -- whole numbers of 53 digits that follow one another are neighbours, times any power of two
 pub neighbours_of : (k n : ℕ) (p q : Float) → 2 ^ 52 ≤ n → MayBeRoot p → MayBeRoot q → Scaled (exact p) (2 ^ 1074) (n * 2 ^ k) → Scaled (exact q) (2 ^ 1074) ((n + 1) * 2 ^ k) → Neighbours p q

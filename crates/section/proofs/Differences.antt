@@ -5,7 +5,7 @@ use mathlib.Core.Bool.{Bool, true, false, not, ◌&&◌, cond}
 use Prim.Native.Nat.{ℕ, ◌*◌, ◌<◌}
 use native.Mathlib.Nat.{le_refl, mul-pos, sub_self}
 use native.Mathlib.Omega.{arith}
-use borrow.Author.Tests.{le_ltb}
+use borrow.Author.Tests.{le-ltb}
 use lib.Ieee.{Float, nan, inf, fin, binary64, up, down, round, sum, sub, eq, of_bits}
 use lib.Ieee.Fits.{down_pos}
 use lib.Ieee.Scale.{finite, round_same}
@@ -17,8 +17,8 @@ round_zero c h = round_same binary64 false 0 c 0 1 h (omega arith) (omega arith)
 
 no_difference : (s : Bool) (a c : ℕ) → 0 < c → sum binary64 s a (not s) a c ≡ zero64
 unfolding sum
-no_difference true a c h = rw (le_ltb a a (le_refl a), sub_self a) (round_zero c h)
-no_difference false a c h = rw (le_ltb a a (le_refl a), sub_self a) (round_zero c h)
+no_difference true a c h = rw (le-ltb a a (le_refl a), sub_self a) (round_zero c h)
+no_difference false a c h = rw (le-ltb a a (le_refl a), sub_self a) (round_zero c h)
 
 pub self_difference : (x : Float) → x ⊟ x ≡ cond (finite x) zero64 nan
 unfolding sub

@@ -4,7 +4,7 @@ use mathlib.Core.Path.{◌≡◌, refl, sym, subst}
 use mathlib.Core.Logic.{◌⊎◌, inl, inr, ⊎_elim}
 use mathlib.Core.Bool.{Bool, true, false, cond}
 use Prim.Native.Nat.{ℕ, zero, suc, ◌+◌, ◌*◌, ◌/◌, ◌≤◌, ◌<◌}
-use native.Mathlib.Nat.{le_trans, not_le_of_lt, mul-le-mul}
+use native.Mathlib.Nat.{le_trans, not-le_of_lt, mul-le-mul}
 use native.Mathlib.Omega.{arith}
 use borrow.Author.Tests.{leb-true, leb-false}
 use lib.Dec.{leb}
@@ -28,7 +28,7 @@ module _ {m t n r : ℕ} (k : Near m t n r) where
   next_reaches y = ⊎_elim
       (λ (h : m < (t + r + 1) * (t + r + 1)).
       let l : t + r + 1 ≤ t + suc n = omega (arith, k.few) in
-      absurd (not_le_of_lt h (le_trans (mul-le-mul l l) y)))
+      absurd (not-le_of_lt h (le_trans (mul-le-mul l l) y)))
       (λ (e : r ≡ n). record {
         few = omega (arith, e);
         low = subst (λ (x : ℕ). x * x ≤ m) (omega (arith, e)) y;

@@ -2,7 +2,7 @@
 use mathlib.Core.Path.{◌≡◌, subst}
 use mathlib.Core.Bool.{Bool, true, false, not, cond}
 use Prim.Native.Nat.{ℕ, zero, suc, ◌+◌, ◌*◌, ◌/◌, ◌^◌, ◌≤◌, ◌<◌}
-use native.Mathlib.Nat.{le_trans, lt_of_not-le, not_le_of_lt, le_antisymm, mul-le-mul, pow-suc, div-lt_iff_lt-mul, zero-lt-suc}
+use native.Mathlib.Nat.{le_trans, lt_of_not-le, not-le_of_lt, le_antisymm, mul-le-mul, pow-suc, div-lt_iff_lt-mul, zero-lt-suc}
 use native.Mathlib.Omega.{arith}
 use lib.Dec.{T, leb, leb→le, nleb→lt}
 use Rattle.whole_root.specs.WholeRoot.{IsWholeRoot, next_digit, whole_root}
@@ -31,7 +31,7 @@ not_above {r} {a} f = let g : a < r + 1 = lt_of_not-le f in omega arith
 
 -- a number whose square is at most n is at most n's root
 pub at_most_root : (n r a : ℕ) → IsWholeRoot n r → a * a ≤ n → a ≤ r
-at_most_root n r a i h = not_above (λ (g : r + 1 ≤ a). not_le_of_lt i.high (le_trans (mul-le-mul g g) h))
+at_most_root n r a i h = not_above (λ (g : r + 1 ≤ a). not-le_of_lt i.high (le_trans (mul-le-mul g g) h))
 
 pub one_root : (n r s : ℕ) → IsWholeRoot n r → IsWholeRoot n s → r ≡ s
 one_root n r s i j = le_antisymm (at_most_root n s r j i.low) (at_most_root n r s i j.low)
@@ -41,4 +41,4 @@ pub root_by_rest : (n r s : ℕ) → r * r + s ≡ n → s ≤ 2 * r → IsWhole
 root_by_rest n r s e h = record { low = omega arith; high = omega arith }
 
 pub root_below : (n r a : ℕ) → r * r ≤ n → n < a * a → r < a
-root_below n r a l h = lt_of_not-le (λ (g : a ≤ r). not_le_of_lt h (le_trans (mul-le-mul g g) l))
+root_below n r a l h = lt_of_not-le (λ (g : a ≤ r). not-le_of_lt h (le_trans (mul-le-mul g g) l))

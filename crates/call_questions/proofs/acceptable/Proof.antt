@@ -17,8 +17,8 @@ use Rattle.section.specs.Faults.{acceptable_in}
 use Rattle.section.proofs.RecurrenceTies.{acceptable_is}
 use Rattle.pipe_layout.proofs.Acceptance.{pairs_accepted, floor_read}
 use Rattle.node_values.specs.Pairs.{pair_in}
-use Rattle.call_questions.proofs.acceptable-points.Statement.{statement}
-use Rattle.call_questions.proofs.acceptable-points.Tie as tie
+use Rattle.call_questions.proofs.acceptable.Statement.{statement}
+use Rattle.call_questions.proofs.acceptable.Tie as tie
 
 -- the function's entry, and where the nodes are counted
 abbrev entry : tie.After-shared_slice_known-7-1 → tie.Start

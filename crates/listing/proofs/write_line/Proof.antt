@@ -2,7 +2,7 @@
 -- within the slice. Assumes nothing.
 use native.Mathlib.Omega.{arith}
 use borrow.Author.Rules.{rules}
-use borrow.Author.Tests.{lt-ltb, le_ltb, le-leb, lt-leb}
+use borrow.Author.Tests.{lt-ltb, le-ltb, le-leb, lt-leb}
 use lib.ListN.{length}
 use Rattle.listing_text.specs.Listing.{line_written}
 use Rattle.listing_text.proofs.StoredTexts.{at_front, no_text}
@@ -11,7 +11,7 @@ use Rattle.listing.proofs.write_line.Tie as tie
 
 too_high : tie.Need-returns-then-section-ge512
 unfolding line_written
-too_high c = rw (le_ltb c.before.before.args.section 512 (omega arith)) no_text
+too_high c = rw (le-ltb c.before.before.args.section 512 (omega arith)) no_text
 
 too_short : tie.Need-returns-then-out-lt-LINE
 unfolding line_written

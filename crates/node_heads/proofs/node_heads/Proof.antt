@@ -8,7 +8,7 @@ use lib.ListN.{length}
 use borrow.Author.Rules.{rules}
 use Rattle.loops.proofs.Fill.{Upto, upto_none, upto_step}
 use Rattle.wave.specs.declared.Node.{Node}
-use Rattle.wave.specs.nodes-nodes.{node_head, node_inflow}
+use Rattle.wave.specs.Nodes.{node_head, node_inflow}
 use Rattle.job.specs.Job.{ScheduledNode, with_value}
 use Rattle.job.specs.Format.{job_of, kind_in, node_in, node_table, node_count}
 use Rattle.job.proofs.NodeLaws.{node_is}

@@ -8,7 +8,7 @@ use Rattle.job.specs.Format.{pipe_table, pipe_count}
 use Rattle.job.proofs.WalkLaws.{walk_none}
 use Rattle.pipe_layout.specs.Layout.{laid_of, Walked}
 use Rattle.pipe_layout.proofs.Acceptance.{Onward, onward}
-use Rattle.spare_ends.specs.spare-1.{EndsByKTo}
+use Rattle.spare_ends.specs.Spare.{EndsByKTo}
 use Rattle.pipe_ends.proofs.SpareLaws.{ends_none, ends_more, ends_rest}
 use Rattle.pipe_ends.proofs.ends_from_k.Statement.{statement}
 use Rattle.pipe_ends.proofs.ends_from_k.Tie as tie

@@ -3,7 +3,7 @@
 use mathlib.Core.Path.{◌∙◌}
 use borrow.Author.Rules.{rules}
 use Rattle.node_heads.proofs.NodeHeads.{heads_by_sums, inflows_by_sums}
-use Rattle.spare_ends.specs.spare-1.{EndsByK}
+use Rattle.spare_ends.specs.Spare.{EndsByK}
 use Rattle.pipe_ends.proofs.SpareLaws.{ends_in}
 use Rattle.pipe_ends.proofs.write_ends.Statement.{statement}
 use Rattle.pipe_ends.proofs.write_ends.Tie as tie

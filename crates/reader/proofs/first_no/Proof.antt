@@ -2,8 +2,8 @@
 use mathlib.Core.Path.{sym, ◌∙◌}
 use Rattle.job.proofs.FirstNo.{refusal_is, decides, goes_on}
 use borrow.Author.Rules.{rules}
-use Rattle.reader.proofs.first_no-of_pairs.Statement.{statement}
-use Rattle.reader.proofs.first_no-of_pairs.Tie as tie
+use Rattle.reader.proofs.first_no.Statement.{statement}
+use Rattle.reader.proofs.first_no.Tie as tie
 
 returns-2 : tie.Need-returns-then-of_pipes-ne0
 returns-2 c =

@@ -5,9 +5,9 @@ use Prim.Native.Nat.{ℕ, ◌+◌, ◌-◌, ◌*◌, ◌/◌, ◌%◌, ◌^◌, 
 use native.Mathlib.Nat.{mul-le-mul_left}
 use native.Mathlib.Omega.{arith}
 use borrow.Author.Rules.{rules}
-use Rattle.whole_root-cut.specs.WholeRoot.{whole_root}
-use Rattle.whole_root-cut.specs.Digits.{LeavesRest}
-use Rattle.whole_root-cut.proofs.WholeLaws.{whole_root_is, one_root, root_by_rest, root_below}
+use Rattle.whole_root.specs.WholeRoot.{whole_root}
+use Rattle.whole_root.specs.Digits.{LeavesRest}
+use Rattle.whole_root.proofs.WholeLaws.{whole_root_is, one_root, root_by_rest, root_below}
 use Rattle.root.specs.Nearest.{to_nearest}
 use Rattle.root.specs.Root.{cut_places}
 use Rattle.root.proofs.Powers.{wide_places, wide_cut}

@@ -5,7 +5,7 @@ use mathlib.Core.Bool.{Bool, cond}
 use Prim.Native.Nat.{ℕ, ◌+◌, ◌*◌, ◌^◌, ◌≤◌, ◌<◌}
 use native.Mathlib.Nat.{add-zero}
 use native.Mathlib.Omega.{arith}
-use borrow.Author.Tests.{lt-ltb, le_ltb}
+use borrow.Author.Tests.{lt-ltb, le-ltb}
 use Rattle.root.specs.Nearest.{to_nearest}
 use Rattle.root.proofs.rounded.Statement.{statement}
 use Rattle.root.proofs.rounded.Tie as tie
@@ -16,7 +16,7 @@ rounds_up q rest h = sym (ap (λ (t : Bool). cond t (q + 1) q) (lt-ltb (q * q + 
 
 rounds_down : (q rest : ℕ) → rest ≤ q → q + 0 ≡ to_nearest (q * q + rest) q
 unfolding to_nearest
-rounds_down q rest h = add-zero q ∙ sym (ap (λ (t : Bool). cond t (q + 1) q) (le_ltb (q * q + q) (q * q + rest) (omega arith)))
+rounds_down q rest h = add-zero q ∙ sym (ap (λ (t : Bool). cond t (q + 1) q) (le-ltb (q * q + q) (q * q + rest) (omega arith)))
 
 -- the sum of the root and 0 or 1 is the nearest
 sum_is : (c : tie.Joined-root-rest) → c.before.args.root + c.if-root-rest.up ≡ to_nearest (c.before.args.root * c.before.args.root + c.before.args.rest) c.before.args.root

@@ -5,15 +5,15 @@ use lib.Dec.{T}
 use lib.Ieee.{binary64}
 use lib.Ieee.Bits.{nan_bits_above}
 use borrow.Author.Rules.{rules}
-use borrow.Author.Tests.{le_ltb}
-use Rattle.root-answer.specs.answer-1.{paper_root}
-use Rattle.root-answer.proofs.AnswerLaws.{root_number}
+use borrow.Author.Tests.{le-ltb}
+use Rattle.root.specs.Answer.{paper_root}
+use Rattle.root.proofs.AnswerLaws.{root_number}
 use Rattle.root_vectors.proofs.show.Statement.{statement}
 use Rattle.root_vectors.proofs.show.Tie as tie
 
 float-from-bits-root : tie.Need-float_from_bits-b
 float-from-bits-root c =
-    subst (λ (t : Bool). T (not t)) (sym (nan_bits_above binary64 c.before.args.b ∙ le_ltb _ _ c.if-b-gt9218868437227405312.false)) tt
+    subst (λ (t : Bool). T (not t)) (sym (nan_bits_above binary64 c.before.args.b ∙ le-ltb _ _ c.if-b-gt9218868437227405312.false)) tt
 
 float-to-bits-print-hex : tie.Need-float_to_bits-r
 float-to-bits-print-hex c =

@@ -2,7 +2,7 @@
 use mathlib.Core.Path.{sym, ◌∙◌}
 use borrow.Author.Rules.{rules}
 use borrow.Author.Tests.{eq-eqb}
-use Rattle.section.specs.faults.{first_fault, found_fault}
+use Rattle.section.specs.Faults.{first_fault, found_fault}
 use Rattle.section.proofs.Soundness.{none_of_sound}
 use Rattle.step_check.proofs.check.Statement.{statement}
 use Rattle.step_check.proofs.check.Tie as tie

@@ -128,7 +128,7 @@ loop-again c =
     let first : tie.Joined-trial-twice_rest invariant-loop decreases-loop = second.before in
     let turn : tie.In-loop-unit invariant-loop decreases-loop = first.before in
     let k = turn.before.loop-unit.invariant in
-    let down = turn.before.loop-unit.twice-rest in
+    let down = turn.before.loop-unit.twice_rest in
     let more : 1 < turn.before.loop-unit.unit = omega (arith, turn.loop-unit-test.true) in
     ⊎_elim
     (λ w. ⊎_elim
@@ -145,10 +145,10 @@ returns : tie.Need-returns invariant-loop decreases-loop
 returns c =
     let here : tie.At-loop-unit invariant-loop decreases-loop = c.before in
     let a = here.before.before.before.args in
-    subst (λ (n : ℕ). LeavesRest n (here.loop-unit.twice-root / 2) (here.loop-unit.twice-rest / 2)) (is_whole a.first.root a.first.rest a.low) (finished here.loop-unit.invariant c.loop-unit-test.false)
+    subst (λ (n : ℕ). LeavesRest n (here.loop-unit.twice_root / 2) (here.loop-unit.twice_rest / 2)) (is_whole a.first.root a.first.rest a.low) (finished here.loop-unit.invariant c.loop-unit-test.false)
 
 -- what is kept, its double and the trial fit
-bound : (c : tie.In-loop-unit invariant-loop decreases-loop) → (c.before.loop-unit.twice-rest < 2 ^ 56) × (c.before.loop-unit.twice-root + c.before.loop-unit.unit ≤ 2 ^ 54)
+bound : (c : tie.In-loop-unit invariant-loop decreases-loop) → (c.before.loop-unit.twice_rest < 2 ^ 56) × (c.before.loop-unit.twice_root + c.before.loop-unit.unit ≤ 2 ^ 54)
 bound c =
     let k = c.before.loop-unit.invariant in
     (omega (arith, k.small, k.short, k.doubled), omega (arith, k.double, k.short, c.loop-unit-test.true))

@@ -3,8 +3,8 @@ use mathlib.Core.Path.{refl}
 use Rattle.job.specs.Questions.{sections_fit, pipe_questions, first_no}
 use Rattle.job.proofs.TableBounds.{pairs_right, table_short}
 use borrow.Author.Rules.{rules}
-use Rattle.reader.proofs.pipes-pipes.first_no.Statement.{statement}
-use Rattle.reader.proofs.pipes-pipes.first_no.Tie as tie
+use Rattle.reader.proofs.pipes.first_no.Statement.{statement}
+use Rattle.reader.proofs.pipes.first_no.Tie as tie
 
 section-count-requires : tie.Need-section_count-few_sections-requires
 section-count-requires c κs =

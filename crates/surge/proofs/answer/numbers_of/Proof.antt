@@ -1,8 +1,8 @@
 -- `surge::answer::numbers_of` meets its contract: each case of the answer, by the paper's number and values. Assumes nothing.
 use borrow.Author.Rules.{rules}
 use Rattle.surge.specs.Answers.{paper_answer}
-use Rattle.surge.proofs.answer-1.numbers_of.Statement.{statement}
-use Rattle.surge.proofs.answer-1.numbers_of.Tie as tie
+use Rattle.surge.proofs.answer.numbers_of.Statement.{statement}
+use Rattle.surge.proofs.answer.numbers_of.Tie as tie
 
 returns : tie.Need-returns-in-Refused
 unfolding paper_answer
