@@ -10,6 +10,7 @@ use Rattle.whole_root.specs.Digits.{LeavesRest, FirstDigits}
 use Rattle.whole_root.proofs.later_digits.Statement.{statement}
 use Rattle.whole_root.proofs.later_digits.Tie as tie
 
+
 -- half of a power of two above 1
 record Halved (unit : ℕ) : Type 0 where
   power : ℕ
@@ -132,14 +133,14 @@ loop-again c =
     let more : 1 < turn.before.loop-unit.unit = omega (arith, turn.loop-unit-test.true) in
     ⊎_elim
     (λ w. ⊎_elim
-    (λ v. turned down w.1 v.1 (one_digit k more (omega (arith, w.0))))
-    (λ v. absurd (omega (arith, w.0, v.0)))
-    second.if-trial-twice_rest-2.branch)
+    (λ v. turned down w.taken-is v.twice_root-is (one_digit k more (omega (arith, w.if-trial-twice_rest.true))))
+    (λ v. absurd (omega (arith, w.if-trial-twice_rest.true, v.if-trial-twice_rest-2.false)))
+    second.if-trial-twice_rest-2.branch-raw)
     (λ w. ⊎_elim
-    (λ v. absurd (omega (arith, w.0, v.0)))
-    (λ v. turned down w.1 v.1 (zero_digit k more w.0.left))
-    second.if-trial-twice_rest-2.branch)
-    first.if-trial-twice_rest.branch
+    (λ v. absurd (omega (arith, w.if-trial-twice_rest.false, v.if-trial-twice_rest-2.true)))
+    (λ v. turned down w.taken-is v.twice_root-is (zero_digit k more w.if-trial-twice_rest.false))
+    second.if-trial-twice_rest-2.branch-raw)
+    first.if-trial-twice_rest.branch-raw
 
 returns : tie.Need-returns invariant-loop decreases-loop
 returns c =
@@ -154,7 +155,7 @@ bound c =
     (omega (arith, k.small, k.short, k.doubled), omega (arith, k.double, k.short, c.loop-unit-test.true))
 
 sub-twice-rest : tie.Need-overflow_sub-twice_rest invariant-loop decreases-loop
-sub-twice-rest c = ⊎_elim (λ w. omega (arith, w.0, w.1)) (λ w. omega (arith, w.1)) c.before.before.if-trial-twice_rest.branch
+sub-twice-rest c = ⊎_elim (λ w. omega (arith, w.if-trial-twice_rest.true, w.taken-is)) (λ w. omega (arith, w.taken-is)) c.before.before.if-trial-twice_rest.branch-raw
 
 pub later_digits_spec : {M : Type 1} → statement M
 later_digits_spec =

@@ -9,10 +9,9 @@ use Rattle.whole_root.proofs.table.entry.Tie as tie
 
 returns : tie.Need-returns
 returns c =
-    let begun : tie.Start = c.before.before in
-    let i = begun.args.i in
+    let i = c.args.i in
     let place : 256 + (i - 256) ≡ i = omega arith in
-    let right = begun.requires.0.entry (i - 256) (omega arith) in
+    let right = c.requires.0.entry (i - 256) (omega arith) in
     subst (λ (j : ℕ). IsWholeRoot (16384 * j) c.wide.result) place (subst (λ (t : ℕ). IsWholeRoot (16384 * (256 + (i - 256))) t) (sym c.wide.ensures) right)
 
 pub entry_spec : {M : Type 1} → statement M
