@@ -42,8 +42,8 @@ abbrev turn : tie.After-pipe_at-l invariant-loop decreases-loop → tie.At-loop-
 turn c = c.before.before.before
 
 next : (c : tie.After-pipe_at-l invariant-loop decreases-loop)
-    → let s = start (tables (turn c)) in Onward s.args.job.now s.pre (turn c).loop-at.at c.pipe_at_lem.result
-next c = onward _ (start (tables (turn c))).pre _ _ (turn c).loop-at.invariant.1 c.pipe_at_lem.ensures
+    → let s = start (tables (turn c)) in Onward s.args.job.now s.pre (turn c).loop-at.at c.pipe_at.result
+next c = onward _ (start (tables (turn c))).pre _ _ (turn c).loop-at.invariant.1 c.pipe_at.ensures
 
 -- It stands before the needs of the turn's calls, so that of another head the prover tells this first.
 loop-again : tie.Need-loop-at-preserved invariant-loop decreases-loop
@@ -58,8 +58,8 @@ loop-again c =
     rw c.past-at.ensures (
       search rules,
       (next read).walked,
-      carried_on _ _ _ table-3 (laid_of read.pipe_at_lem.result) inv.2 read.pipe_at_lem.ensures (next read).first_is told.0,
-      tested_on _ _ _ table-3 (laid_of read.pipe_at_lem.result) inv.2 read.pipe_at_lem.ensures (next read).first_is from.before.initial-initial.ensures inv.3 told.1,
+      carried_on _ _ _ table-3 (laid_of read.pipe_at.result) inv.2 read.pipe_at.ensures (next read).first_is told.0,
+      tested_on _ _ _ table-3 (laid_of read.pipe_at.result) inv.2 read.pipe_at.ensures (next read).first_is from.before.initial-initial.ensures inv.3 told.1,
     )
 
 judge-requires : tie.Need-judge_pipe-judged-requires invariant-loop decreases-loop

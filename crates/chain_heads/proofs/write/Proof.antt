@@ -42,8 +42,8 @@ abbrev turn : tie.After-pipe_at-l invariant-loop decreases-loop → tie.At-loop-
 turn c = c.before.before.before
 
 next : (c : tie.After-pipe_at-l invariant-loop decreases-loop)
-    → let s = start (table (turn c)) in Onward s.args.job.now s.pre.0 (turn c).loop-at.at c.pipe_at_lem.result
-next c = onward _ (start (table (turn c))).pre.0 _ _ (turn c).loop-at.invariant.1 c.pipe_at_lem.ensures
+    → let s = start (table (turn c)) in Onward s.args.job.now s.pre.0 (turn c).loop-at.at c.pipe_at.result
+next c = onward _ (start (table (turn c))).pre.0 _ _ (turn c).loop-at.invariant.1 c.pipe_at.ensures
 
 -- from the end of a turn back to where its pipe has been written, and to the pipe
 abbrev written : tie.After-slice_known-in-loop-at-2-1 invariant-loop decreases-loop → tie.After-write_pipe-head invariant-loop decreases-loop
@@ -60,13 +60,13 @@ loop-again c =
     let inv = loop.loop-at.inv in
     let told = done.write_pipe-head.ensures in
     let table-3 = (table loop).before.friction-friction.ensures in
-    let l = laid_of read.pipe_at_lem.result in
+    let l = laid_of read.pipe_at.result in
     let kept = done.write_pipe-head.kept.1.1.1.1 in
     rw c.past-at.ensures (
       search rules,
       (next read).walked,
-      carried_on _ _ _ table-3 l inv.2 read.pipe_at_lem.ensures (next read).first_is told.0,
-      (kept.0 ∙ inv.3.0, heads_on _ _ _ table-3 l inv.2 read.pipe_at_lem.ensures (next read).first_is _ inv.3.1 told.1),
+      carried_on _ _ _ table-3 l inv.2 read.pipe_at.ensures (next read).first_is told.0,
+      (kept.0 ∙ inv.3.0, heads_on _ _ _ table-3 l inv.2 read.pipe_at.ensures (next read).first_is _ inv.3.1 told.1),
       (kept.1.0 ∙ inv.4.0, filled_pipe _ _ _ _ (next read).first_is inv.4.1 told.2),
     )
 

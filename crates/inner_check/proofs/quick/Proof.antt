@@ -38,7 +38,7 @@ abbrev turn : tie.After-clear_one-odd invariant-loop decreases-loop → tie.In-l
 turn c = c.before.before.before.before
 
 is_usual : (c : tie.Else-not-usual invariant-loop decreases-loop) → let s = (start c).args.s in T (positive (s ⊞ s))
-is_usual c = above_zero _ great64 (not-false _ c.if-not-usual.false)
+is_usual c = above_zero _ great64 (c.if-not-usual.false)
 
 two-cp-requires : tie.Need-two_cp-cp-requires invariant-loop decreases-loop
 two-cp-requires c κs = ((start c).requires.0, omega (arith, (start c).requires.2))

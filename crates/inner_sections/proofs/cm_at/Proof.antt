@@ -18,7 +18,7 @@ unfolding cm_at
 returns c =
     let below : tie.After-read-below = c.before.before in
     let s = (start below).args.s in
-    c.from_below_lem.ensures ∙ ap₂ (λ (R : Float) (x : HeadFlow). from_below s R x.head x.flow) c.before.friction_at.ensures below.read-below.ensures
+    c.from_below.ensures ∙ ap₂ (λ (R : Float) (x : HeadFlow). from_below s R x.head x.flow) c.before.friction_at.ensures below.read-below.ensures
 
 pub cm_at_spec : {M : Type 1} → statement M
 cm_at_spec =

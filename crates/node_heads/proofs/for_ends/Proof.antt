@@ -10,11 +10,11 @@ use Rattle.node_heads.proofs.for_ends.Statement.{statement}
 use Rattle.node_heads.proofs.for_ends.Tie as tie
 
 -- what the test of the code tells of the pair
-judged : (c : tie.After-pair_finite) (b : Bool) → c.pair_finite_lem.result ≡ b
+judged : (c : tie.After-pair_finite) (b : Bool) → c.pair_finite.result ≡ b
     → let a = c.before.before.args in pair_finite a.n (node_inflow a.n a.sums) ≡ b
 judged c b e =
     let n = c.before.before.args.n in
-    let is : c.pair_finite_lem.result ≡ pair_finite n c.before.solve_node-solved.result.inflow = c.pair_finite_lem.ensures in
+    let is : c.pair_finite.result ≡ pair_finite n c.before.solve_node-solved.result.inflow = c.pair_finite.ensures in
     sym (ap (pair_finite n) c.before.solve_node-solved.ensures.1) ∙ sym is ∙ e
 
 returns : tie.Need-returns-then-pair_finite

@@ -22,10 +22,10 @@ returns-3 c = rw c.in-Valve.is
 returns-4 : tie.Need-returns-in-Pump
 unfolding pair_finite
 returns-4 c =
-    let speed = c.before.before.in-Pump.speed in
+    let speed = c.in-Pump.speed in
     let inflow = c.before.before.before.before.args.inflow in
     let is : c.both_finite.result ≡ finite speed && finite inflow = c.both_finite.ensures in
-    rw c.before.before.in-Pump.is is
+    rw c.in-Pump.is is
 
 pub pair_finite_spec : {M : Type 1} → statement M
 pair_finite_spec =

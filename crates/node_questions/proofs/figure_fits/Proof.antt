@@ -11,6 +11,6 @@ figure_fits_spec =
     tie.close
     (tie.spec
     (λ c κs. search rules)
-    (λ c κs. (search rules, sym c.before.all_finite_lem.ensures ∙ c.if-all_finite.true))
-    (λ c. rw (sym c.before.before.all_finite_lem.ensures ∙ c.before.if-all_finite.true) c.figures_fit_kind.ensures)
-    (λ c. rw (sym c.before.all_finite_lem.ensures ∙ c.if-all_finite.false)))
+    (λ c κs. (search rules, sym c.before.all_finite.ensures ∙ c.if-all_finite.true))
+    (λ c. rw (sym c.before.before.all_finite.ensures ∙ c.before.if-all_finite.true) c.figures_fit_kind.ensures)
+    (λ c. rw (sym c.before.all_finite.ensures ∙ c.if-all_finite.false)))

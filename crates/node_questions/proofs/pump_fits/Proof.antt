@@ -15,4 +15,4 @@ pump_fits_spec =
     (λ c κs. (search rules, (finite_figures _ _ c.before.requires.1).a))
     (λ c. search rules)
     (λ c κs. (search rules, (finite_figures _ _ c.before.before.requires.1).b))
-    (λ c. rw (c.before.not_below_zero_lem.ensures, c.not_below_zero-2.ensures)))
+    (λ c. rw (c.before.not_below_zero.ensures, c.not_below_zero-2.ensures)))

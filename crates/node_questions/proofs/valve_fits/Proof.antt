@@ -16,4 +16,4 @@ valve_fits_spec =
     (λ c κs. (search rules, (finite_figures _ _ c.before.requires.1).a))
     (λ c. search rules)
     (λ c κs. search rules)
-    (λ c. rw (c.before.not_below_zero_lem.ensures, c.zero_bits_at.ensures) refl))
+    (λ c. rw (c.before.not_below_zero.ensures, c.zero_bits_at.ensures) refl))

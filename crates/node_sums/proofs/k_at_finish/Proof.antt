@@ -28,7 +28,7 @@ returns c =
     let i = args.l.reaches - 1 in
     rw (← sub-one args.l.reaches)
     (along_read finish_k args.job.now args.heads.now args.flows.now (laid_of args.l) i i (start begin).requires.0 (omega (arith, here begin))
-    read.friction_at.ensures c.finish_k_lem.ensures)
+    read.friction_at.ensures c.finish_k.ensures)
 
 pub k_at_finish_spec : {M : Type 1} → statement M
 k_at_finish_spec =

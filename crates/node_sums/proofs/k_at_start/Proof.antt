@@ -29,7 +29,7 @@ returns c =
     let args = (start begin).args in
     let reach : args.l.first_reach ≡ args.l.first_reach + 0 = omega arith in
     along_read start_k args.job.now args.heads.now args.flows.now (laid_of args.l) 0 1 (start begin).requires.0 (omega (arith, here begin))
-    (read.friction_at.ensures ∙ ap (friction_at (job_of args.job.now)) reach) c.start_k_lem.ensures
+    (read.friction_at.ensures ∙ ap (friction_at (job_of args.job.now)) reach) c.start_k.ensures
 
 pub k_at_start_spec : {M : Type 1} → statement M
 k_at_start_spec =

@@ -41,10 +41,10 @@ pipe-at-requires c κs = ((start c.before.before).pre.0, here c, c.before.before
 
 -- the pipe at hand, and the walk past it
 next : (c : tie.After-pipe_at-l invariant-loop decreases-loop)
-    → let loop : tie.At-loop-at invariant-loop decreases-loop = c.before.before.before in Onward (start loop).args.job.now (start loop).requires.0 loop.loop-at.at c.pipe_at_lem.result
+    → let loop : tie.At-loop-at invariant-loop decreases-loop = c.before.before.before in Onward (start loop).args.job.now (start loop).requires.0 loop.loop-at.at c.pipe_at.result
 next c =
     let loop : tie.At-loop-at invariant-loop decreases-loop = c.before.before.before in
-    onward _ (start loop).requires.0 _ _ loop.loop-at.invariant.1 c.pipe_at_lem.ensures
+    onward _ (start loop).requires.0 _ _ loop.loop-at.invariant.1 c.pipe_at.ensures
 
 pipe-ends-requires : tie.Need-pipe_ends-requires invariant-loop decreases-loop
 pipe-ends-requires c κs =
@@ -63,12 +63,12 @@ loop-again c =
     let args = (start loop).args in
     let inv = loop.loop-at.invariant in
     let is = stored.pipe_ends.ensures in
-    let l = laid_of read.pipe_at_lem.result in
+    let l = laid_of read.pipe_at.result in
     rw c.past-at.ensures (
       search rules,
       (next read).walked,
       search rules,
-      ends_more args.job.now args.nodes.now args.spare-1.now loop.loop-at.spare-1 loop.loop-at.at.pipe l inv.4 is (room read.before) read.pipe_at_lem.ensures inv.3,
+      ends_more args.job.now args.nodes.now args.spare-1.now loop.loop-at.spare-1 loop.loop-at.at.pipe l inv.4 is (room read.before) read.pipe_at.ensures inv.3,
       ends_rest args.job.now args.nodes.now args.spare-1.now loop.loop-at.spare-1 loop.loop-at.at.pipe l inv.4 is,
     )
 

@@ -30,7 +30,7 @@ module _ (x : Float) where
 
 -- what owning an `f64` tells: the format holds it
 held : (c : tie.Start) → T (fits binary64 c.args.x)
-held c = subst T (sym c.well-formed.0.1) tt
+held c = subst T (sym c.well_formed.0.1) tt
 
 -- both clauses of the contract, by the first
 both : (c : tie.Start) {a : RootAnswer} → a ≡ root_answer c.args.x → (a ≡ root_answer c.args.x) × ((v : Float) → a ≡ value v → IsRoot c.args.x v)
@@ -38,11 +38,11 @@ both c e = (e, λ v is. answer_is_root c.args.x v (held c) (sym is ∙ e))
 
 returns : tie.Need-returns-then-not-is_finite
 returns c =
-    let s = c.before.before in both s (not_finite s.args.x (sym c.before.is_finite.ensures ∙ not-true _ c.if-not-is_finite.true))
+    let s = c.before.before in both s (not_finite s.args.x (sym c.before.is_finite.ensures ∙ c.if-not-is_finite.true))
 
 -- the argument is finite, where the first test went on
 is_finite : (c : tie.Else-not-is_finite) → finite c.before.before.args.x ≡ true
-is_finite c = sym c.before.is_finite.ensures ∙ not-false _ c.if-not-is_finite.false
+is_finite c = sym c.before.is_finite.ensures ∙ c.if-not-is_finite.false
 
 returns-2 : tie.Need-returns-then-x
 returns-2 c = let s = c.before.before.before in both s (below_zero s.args.x (is_finite c.before) c.if-x.true)

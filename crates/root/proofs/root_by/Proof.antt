@@ -15,7 +15,7 @@ use Rattle.root.proofs.root_by.Tie as tie
 
 -- what owning an `f64` tells: the format holds it
 held : (c : tie.Start) → T (fits binary64 c.args.x)
-held c = subst T (sym c.well-formed.1.0.1) tt
+held c = subst T (sym c.well_formed.1.0.1) tt
 
 -- the answer at x, from the answer at x's pattern
 at : (c : tie.Start) (b : ℕ) → to_bits binary64 c.args.x ≡ b → root_of (of_bits binary64 b) ≡ root_of c.args.x

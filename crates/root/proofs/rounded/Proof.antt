@@ -23,10 +23,10 @@ sum_is : (c : tie.Joined-root-rest) → c.before.args.root + c.if-root-rest.up �
 sum_is c =
     let q = c.before.args.root in
     let rest = c.before.args.rest in
-    ⊎_elim (λ w. rw w.1 (rounds_up q rest w.0.taken)) (λ w. rw w.1 (rounds_down q rest w.0.left)) c.if-root-rest.branch
+    ⊎_elim (λ w. rw w.up-is (rounds_up q rest w.if-root-rest.true)) (λ w. rw w.up-is (rounds_down q rest w.if-root-rest.false)) c.if-root-rest.branch-raw
 
 at_most_one : (c : tie.Joined-root-rest) → c.if-root-rest.up ≤ 1
-at_most_one c = ⊎_elim (λ w. omega (arith, w.1)) (λ w. omega (arith, w.1)) c.if-root-rest.branch
+at_most_one c = ⊎_elim (λ w. omega (arith, w.up-is)) (λ w. omega (arith, w.up-is)) c.if-root-rest.branch-raw
 
 pub rounded_spec : {M : Type 1} → statement M
 rounded_spec =

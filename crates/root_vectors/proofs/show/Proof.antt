@@ -17,7 +17,7 @@ float-from-bits-root c =
 
 float-to-bits-print-hex : tie.Need-float_to_bits-r
 float-to-bits-print-hex c =
-    root_number _ _ (c.before.before.before.root-answer.ensures.1 _ (ap paper_root c.before.in-Value.is))
+    root_number _ _ (c.before.before.before.root-answer.ensures.1 _ (ap paper_root c.in-Value.is))
 
 pub show_spec : {M : Type 1} → statement M
 show_spec =

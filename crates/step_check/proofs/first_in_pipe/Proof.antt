@@ -49,10 +49,10 @@ found c =
     let s = start turn.before in
     fault_by_spare_lem s.args.job.now (laid_of s.args.l) s.args.spare.now (s.args.p * 4) s.args.heads.now s.args.flows.now turn.before.loop-i.i
     {floor = c.before.floor_of.result}
-    {x = made.new_at_lem.result}
+    {x = made.new_at.result}
     c.fault_of-found.ensures
     c.before.floor_of.ensures
-    made.new_at_lem.ensures
+    made.new_at.ensures
 
 -- from where a fault is told back to the turn
 abbrev turn-of : tie.After-fault_of-found invariant-loop decreases-loop → tie.In-loop-i invariant-loop decreases-loop

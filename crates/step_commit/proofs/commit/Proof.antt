@@ -47,10 +47,10 @@ pipe-at-requires c κs = ((entry c.before.before).pre.0.0.accepted, here c, c.be
 -- the pipe at hand, and the walk past it
 next : (c : tie.After-pipe_at-l invariant-loop decreases-loop)
     → let loop : tie.At-loop-at invariant-loop decreases-loop = c.before.before.before in
-    Onward (entry loop).args.job.now (entry loop).requires.0.0.accepted loop.loop-at.at c.pipe_at_lem.result
+    Onward (entry loop).args.job.now (entry loop).requires.0.0.accepted loop.loop-at.at c.pipe_at.result
 next c =
     let loop : tie.At-loop-at invariant-loop decreases-loop = c.before.before.before in
-    onward _ (entry loop).requires.0.0.accepted _ _ loop.loop-at.invariant.1 c.pipe_at_lem.ensures
+    onward _ (entry loop).requires.0.0.accepted _ _ loop.loop-at.invariant.1 c.pipe_at.ensures
 
 commit-pipe-requires : tie.Need-commit_pipe-requires invariant-loop decreases-loop
 commit-pipe-requires c κs =
@@ -61,7 +61,7 @@ commit-pipe-requires c κs =
     let lent = s.pre.0.0 in (
       (
         record { accepted = lent.accepted; heads_long = omega (arith, long.0, lent.heads_long); flows_long = omega (arith, long.1, lent.flows_long) },
-        record { number = _; is = read.pipe_at_lem.ensures },
+        record { number = _; is = read.pipe_at.ensures },
         omega (arith, here read.before, s.pre.0.1),
       ),
       (omega (arith, long.2, s.pre.1.0), omega (arith, long.3, s.pre.1.1)),
@@ -87,7 +87,7 @@ loop-again c =
       (next read).walked,
       (kept.0 ∙ inv.2.0, kept.1.0 ∙ inv.2.1, kept.1.1.0 ∙ inv.2.2, kept.1.1.1.0 ∙ inv.2.3),
       λ nodes e.
-          pipe_more args.job.now nodes args.heads-1.now args.flows-1.now args.spare.now e _ (laid_of read.pipe_at_lem.result) read.pipe_at_lem.ensures
+          pipe_more args.job.now nodes args.heads-1.now args.flows-1.now args.spare.now e _ (laid_of read.pipe_at.result) read.pipe_at.ensures
           (next read).first_is (inv.3 nodes e) done.commit_pipe.ensures refl,
     )
 

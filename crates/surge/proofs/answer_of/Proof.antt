@@ -13,11 +13,11 @@ returns c st = rw c.in-Sound.is
 
 returns-2 : tie.Need-returns-in-NotFinite
 unfolding paper_answer result_of ending_of answer_of stop_answer cause_number
-returns-2 c st = rw c.before.in-NotFinite.is
+returns-2 c st = rw c.in-NotFinite.is
 
 returns-3 : tie.Need-returns-in-Parted
 unfolding paper_answer result_of ending_of answer_of stop_answer cause_number
-returns-3 c st = rw c.before.in-Parted.is
+returns-3 c st = rw c.in-Parted.is
 
 pub answer_of_spec : {M : Type 1} → statement M
 answer_of_spec =

@@ -75,7 +75,7 @@ carry-on-requires c κs =
     (record { accepted = o.accepted; enough = o.enough }, limit_kept _ _ (within sound.before))
 
 returns-3 : tie.Need-returns-in-Refused
-returns-3 c = run_refused _ _ _ _ _ (ap paper_read (sym c.before.in-Refused.is) ∙ c.before.before.before.read_and_enough-read.ensures)
+returns-3 c = run_refused _ _ _ _ _ (ap paper_read (sym c.in-Refused.is) ∙ c.before.before.before.read_and_enough-read.ensures)
 
 returns-4 : tie.Need-returns-else-not-fit
 returns-4 c =

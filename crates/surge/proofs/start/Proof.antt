@@ -26,7 +26,7 @@ begin-requires c κs =
     (record { accepted = o.accepted; enough = o.enough }, o.count)
 
 returns : tie.Need-returns-in-Refused
-returns c = start_refused _ _ _ (ap paper_read (sym c.before.in-Refused.is) ∙ c.before.before.before.read_and_enough-read.ensures)
+returns c = start_refused _ _ _ (ap paper_read (sym c.in-Refused.is) ∙ c.before.before.before.read_and_enough-read.ensures)
 
 returns-2 : tie.Need-returns-in-Accepted
 returns-2 c =

@@ -38,7 +38,7 @@ chained c = is_yes c.before.is_chain_with-chain.ensures c.if-not-chain.false
 -- 52, by the rows' lengths
 held : (c : tie.Else-not-chain)
     → let a = (entry c.before).args in
-    let n = c.before.before.before.in-Accepted.sections in
+    let n = c.in-Accepted.sections in
     leb n (length a.heads-1.now) && leb n (length a.flows-1.now) ≡ rows_hold (job_of a.job.now) a.heads-1.now a.flows-1.now
 held c = rows_asked _ _ _ (told c.before.before.before).1 refl
 
@@ -60,7 +60,7 @@ returns-2 c = too_short _ _ _ _ _ (accepted c.before.before) (chained c.before) 
 returns-3 : tie.Need-returns-in-Refused
 returns-3 c =
     let read : tie.After-read-read = c.before.before.before in
-    let r = refused_is (start read).args.job.now _ (ap paper_read (sym c.before.in-Refused.is) ∙ read.read-read.ensures) in
+    let r = refused_is (start read).args.job.now _ (ap paper_read (sym c.in-Refused.is) ∙ read.read-read.ensures) in
     read_refused _ _ _ _ _ r.1 r.0
 
 returns-4 : tie.Need-returns-else-not-hold

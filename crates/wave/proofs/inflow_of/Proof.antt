@@ -7,11 +7,11 @@ use Rattle.wave.proofs.inflow_of.Tie as tie
 
 returns : tie.Need-returns-in-Flow
 unfolding inflow_of
-returns c = rw c.before.in-Flow.is refl
+returns c = rw c.in-Flow.is refl
 
 returns-2 : tie.Need-returns-in-NotFinite
 unfolding inflow_of
-returns-2 c = rw c.before.in-NotFinite.is c.infinity.ensures
+returns-2 c = rw c.in-NotFinite.is c.infinity.ensures
 
 pub inflow_of_spec : {M : Type 1} → statement M
 inflow_of_spec = tie.close (tie.spec (λ c. search rules) (λ c. search rules) (λ c κs. search rules) returns returns-2)

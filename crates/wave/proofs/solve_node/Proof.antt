@@ -8,24 +8,24 @@ use Rattle.wave.proofs.solve_node.Tie as tie
 
 returns : tie.Need-returns-in-Junction
 unfolding node_head node_inflow
-returns c = rw c.before.before.before.before.in-Junction.is (c.judged-head.ensures, refl)
+returns c = rw c.in-Junction.is (c.judged-head.ensures, refl)
 
 returns-2 : tie.Need-returns-in-Reservoir
 unfolding node_head node_inflow
-returns-2 c = rw c.before.before.in-Reservoir.is (c.judged-head-in-Reservoir.ensures, refl)
+returns-2 c = rw c.in-Reservoir.is (c.judged-head-in-Reservoir.ensures, refl)
 
 returns-3 : tie.Need-returns-in-Valve
 unfolding node_head node_inflow
 returns-3 c =
     let f = c.before.before in
-    rw (f.before.before.in-Valve.is, ← f.valve_flow-q.ensures, ← c.before.head_less.ensures) (c.judged-head-in-Valve.ensures, refl)
+    rw (f.in-Valve.is, ← f.valve_flow-q.ensures, ← c.before.head_less.ensures) (c.judged-head-in-Valve.ensures, refl)
 
 returns-4 : tie.Need-returns-in-Pump
 unfolding node_head node_inflow
 returns-4 c =
     let j = c.before in
     let f = j.before.before in
-    rw (f.before.before.in-Pump.is, ← f.pump_flow-q.ensures, ← j.before.head_more.ensures) (j.judged-head-in-Pump.ensures, c.inflow_of.ensures)
+    rw (f.in-Pump.is, ← f.pump_flow-q.ensures, ← j.before.head_more.ensures) (j.judged-head-in-Pump.ensures, c.inflow_of.ensures)
 
 pub solve_node_spec : {M : Type 1} → statement M
 solve_node_spec =

@@ -6,7 +6,7 @@ use Rattle.wave.proofs.start_k.Tie as tie
 
 returns : tie.Need-returns
 unfolding start_k
-returns c = rw c.from_below_lem.ensures
+returns c = rw c.from_below.ensures
 
 pub start_k_spec : {M : Type 1} → statement M
 start_k_spec = tie.close (tie.spec (λ c κs. search rules) returns)

@@ -12,5 +12,5 @@ constant_fits_spec =
     (tie.spec
     (λ c κs. search rules)
     (λ c κs. (search rules, sym c.before.finite_at.ensures ∙ c.if-finite_at.true))
-    (λ c. rw (sym c.before.before.finite_at.ensures ∙ c.before.if-finite_at.true) c.not_below_zero_lem.ensures)
+    (λ c. rw (sym c.before.before.finite_at.ensures ∙ c.before.if-finite_at.true) c.not_below_zero.ensures)
     (λ c. rw (sym c.before.finite_at.ensures ∙ c.if-finite_at.false)))

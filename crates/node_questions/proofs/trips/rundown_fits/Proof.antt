@@ -17,4 +17,4 @@ rundown_fits_spec =
     (λ c κs. search rules)
     (λ c. search rules)
     (λ c κs. search rules)
-    (λ c. rw (c.before.before.constant_fits_lem.ensures, c.before.constant_fits-2.ensures, c.constant_fits-3.ensures) refl))
+    (λ c. rw (c.before.before.constant_fits.ensures, c.before.constant_fits-2.ensures, c.constant_fits-3.ensures) refl))

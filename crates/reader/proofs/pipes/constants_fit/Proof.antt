@@ -23,8 +23,8 @@ constants_fit_spec =
     decreases-loop
     (λ c. passing_none _)
     (λ c κs. search rules)
-    (λ c. passing_stop _ c.before.before.loop-p-test.true c.before.constant_fits_lem.ensures c.if-not-constant_fits.true)
+    (λ c. passing_stop _ c.before.before.loop-p-test.true c.before.constant_fits.ensures c.if-not-constant_fits.true)
     (λ c. search rules)
     (λ c. search rules)
-    (λ c. passing_step _ c.before.before.before.loop-p.invariant (omega arith) c.before.constant_fits_lem.ensures c.if-not-constant_fits.false)
+    (λ c. passing_step _ c.before.before.before.loop-p.invariant (omega arith) c.before.constant_fits.ensures c.if-not-constant_fits.false)
     (λ c. passing_done _ c.before.loop-p.invariant c.loop-p-test.false))

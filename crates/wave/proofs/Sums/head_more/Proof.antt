@@ -6,11 +6,11 @@ use Rattle.wave.proofs.Sums.head_more.Tie as tie
 
 returns : tie.Need-returns-in-Flow
 unfolding head_more
-returns c = rw c.before.in-Flow.is
+returns c = rw c.in-Flow.is
 
 returns-2 : tie.Need-returns-in-NotFinite
 unfolding head_more
-returns-2 c = rw c.before.in-NotFinite.is c.infinity.ensures
+returns-2 c = rw c.in-NotFinite.is c.infinity.ensures
 
 pub head_more_spec : {M : Type 1} → statement M
 head_more_spec = tie.close (tie.spec (λ c. search rules) (λ c. search rules) (λ c κs. search rules) returns returns-2)
