@@ -18,5 +18,5 @@ put_number_spec =
     (λ c. omega arith)
     (λ c. omega arith)
     (λ c κs. simp length-set (omega (arith, twenty c.before.before)))
-    (λ c. let a = c.before.before.before.before.before.args in omega (arith, length-set a.out-1.now a.at 32))
+    (λ c. let a = c.before.before.before.before.before.args in omega (arith, length-set a.out.now a.at 32))
     (λ c. (joined one_byte c.before.before.put_decimal.ensures.0, omega (arith, twenty c.before.before.before.before.before))))

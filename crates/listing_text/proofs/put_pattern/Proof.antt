@@ -17,5 +17,5 @@ put_pattern_spec =
     (λ c κs. search rules)
     (λ c. search rules)
     (λ c κs. simp length-set (omega arith))
-    (λ c. let a = c.before.before.before.before.before.before.args in omega (arith, length-set a.out-1.now a.at 32))
+    (λ c. let a = c.before.before.before.before.before.before.args in omega (arith, length-set a.out.now a.at 32))
     returns)
