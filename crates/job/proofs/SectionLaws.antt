@@ -1,6 +1,6 @@
 -- What the yes to questions 13 and 14 says of a reach and of a section. Assumes nothing.
 use mathlib.Core.Path.{◌≡◌, refl, ◌∙◌}
-use mathlib.Core.Bool.{true, ◌&&◌, and_assoc}
+use mathlib.Core.Bool.{Bool, true, false, ◌&&◌, and_assoc}
 use mathlib.Core.List.{List}
 use Prim.Native.Nat.{ℕ, zero, suc, ◌+◌, ◌*◌, ◌/◌, ◌<◌}
 use native.Mathlib.Nat.{zero-add}
@@ -34,6 +34,10 @@ finite_section_lem i h =
 pub from_first : (bytes : List ℕ) (n : ℕ) → numbers_finite bytes 0 n ≡ all_below (λ k. finite (f64_at bytes (k * 8))) n
 from_first bytes n = all_cong n (λ k. finite (f64_at bytes ((0 + k) * 8))) (λ k. finite (f64_at bytes (k * 8))) (λ k l. rw (zero-add k))
 
+regroup : (p a b c : Bool) → ((p && a) && b) && c ≡ p && (a && b && c)
+regroup true a b c = refl
+regroup false a b c = refl
+
 module _ (initial : List ℕ) where
   pub section_fits_lem : initial_fits initial ≡ true → (s : ℕ) → s < length initial / 24 → section_fits (section_in initial s) ≡ true
   unfolding initial_fits
@@ -48,15 +52,23 @@ module _ (initial : List ℕ) where
   unfolding initial_fits section_fits
   initial_halves = all_both (λ s. finite_section (section_in initial s)) (λ s. not_below_floor (section_in initial s)) (length initial / 24)
 
+  three_of : (n : ℕ) → finite_section (section_in initial n)
+      ≡ finite (f64_at initial (n * 24)) && finite (f64_at initial (n * 24 + 8)) && finite (f64_at initial (n * 24 + 16))
+  unfolding finite_section
+  three_of n = refl
+
   three_each : (n : ℕ) → all_below (λ k. finite (f64_at initial (k * 8))) (n * 3) ≡ all_below (λ s. finite_section (section_in initial s)) n
-  unfolding all_below finite_section
+  unfolding all_below
   three_each zero = refl
   three_each (suc n) =
       let p : suc n * 3 ≡ suc (suc (suc (n * 3))) = omega arith in
       let a : n * 3 * 8 ≡ n * 24 = omega arith in
       let b : suc (n * 3) * 8 ≡ n * 24 + 8 = omega arith in
       let c : suc (suc (n * 3)) * 8 ≡ n * 24 + 16 = omega arith in
-      rw (p, a, b, c, three_each n) (simp and_assoc)
+      rw (p, a, b, c, three_each n, three_of n) (
+      regroup (all_below (λ s. finite_section (section_in initial s)) n) (finite (f64_at initial (n * 24))) (finite (f64_at initial (n * 24 + 8)))
+      (finite (f64_at initial (n * 24 + 16)))
+      )
 
   pub three_finite : (n : ℕ) → numbers_finite initial 0 (n * 3) ≡ all_below (λ s. finite_section (section_in initial s)) n
   three_finite n = from_first initial (n * 3) ∙ three_each n

@@ -14,10 +14,9 @@ figures start = figures_finite _ start.requires.0 _ start.requires.1
 returns-4 : tie.Need-returns-in_default
 unfolding with_value kind_in
 returns-4 c =
-    let arm = c.before.before.before in
-    let other = arm.match.rest in
+    let other = c.in_default.in_default-own.rest in
     rw (
-      ← arm.before.kind-k.ensures.0,
+      ← c.kind-k.ensures.0,
       ne_eqb _ _ other.0.0.1,
       ne_eqb _ _ other.0.1,
       ne_eqb _ _ other.1,

@@ -15,7 +15,7 @@ pair_within c = let right = pairs_right _ c.requires.0 in omega (arith, c.requir
 part-result-end : tie.Need-slice_bounds-result-end
 part-result-end c =
     let start : tie.Start = c.before.before.before in
-    let ends : c.before.offset_of-a.result-1 + c.length_of.result-1 ≤ length start.args.job.now =
+    let ends : c.before.offset_of-a.result + c.length_of.result ≤ length start.args.job.now =
     rw (c.before.offset_of-a.ensures.0, c.length_of.ensures.0) (table_ends _ (pairs_right _ start.requires.0) _ start.requires.1) in
     search rules
 
