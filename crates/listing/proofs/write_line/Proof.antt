@@ -17,14 +17,14 @@ too_short : tie.Need-returns-then-out-lt-LINE
 unfolding line_written
 too_short c =
     let start : tie.Start = c.before.before.before in
-    rw (lt-ltb start.args.section 512 (omega arith), lt-leb 72 (length start.args.out-1.now) (omega arith)) no_text
+    rw (lt-ltb start.args.section 512 (omega arith), lt-leb 72 (length start.args.out.now) (omega arith)) no_text
 
 written : tie.Need-returns
 unfolding line_written
 written c =
     let stored : tie.After-put_line = c.before.before in
     let start : tie.Start = stored.before.before.before.before.before in
-    rw (lt-ltb start.args.section 512 (omega arith), le-leb 72 (length start.args.out-1.now) (omega arith)) (at_front stored.put_line.ensures.0 (omega arith))
+    rw (lt-ltb start.args.section 512 (omega arith), le-leb 72 (length start.args.out.now) (omega arith)) (at_front stored.put_line.ensures.0 (omega arith))
 
 pub write_line_spec : {M : Type 1} → statement M
 write_line_spec = tie.close (tie.spec too_high too_short (λ c κs. search rules) (λ c. search rules) written)

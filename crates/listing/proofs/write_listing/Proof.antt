@@ -23,7 +23,7 @@ turn c = c.before.before.before.before.before.before
 
 loop-again : tie.Need-loop-s-preserved invariant-loop decreases-loop
 unfolding lines_text
-loop-again c = (omega arith, omega arith, omega arith, rw (add-one (turn c.before.before).before.loop-s.s) (joined (turn c.before.before).before.loop-s.inv.3 c.before.before.put_line-at.ensures.0))
+loop-again c = (omega arith, omega arith, omega arith, rw (add-one (turn c.before.before).before.loop-s.s) (joined (turn c.before.before).before.loop-s.invariant.3 c.before.before.put_line-at.ensures.0))
 
 returns : tie.Need-returns invariant-loop decreases-loop
 returns c =
