@@ -3,15 +3,10 @@
 
 mod afresh;
 
-use libc::{STDERR_FILENO, STDOUT_FILENO};
-
-fn main() {
+fn main(rt: HostRuntime) {
     let mut text = [0u8; 3840];
     let n = afresh::write_table(&mut text);
-    if !io::write_all(STDOUT_FILENO, &text[0..n]) {
-        io::write_all(
-            STDERR_FILENO,
-            b"table_afresh: the table could not be written whole\n",
-        );
+    if rt.write_all(&text[0..n]).is_err() {
+        let _ = eprintln!(rt; "table_afresh: the table could not be written whole");
     }
 }
