@@ -1,12 +1,12 @@
 -- The lent slices as a contract has them, gathered into rows before and after a call. Definitions only.
 use Rattle.std.specs.Prelude.{List, Float}
-use Rattle.std.specs.Borrow.{Bor}
+use Rattle.std.specs.Borrow.{MutBor}
 use denote.Triple.Both.{Both}
 use Rattle.recurrence.specs.Calls.{Rows, gathered}
 
 -- a lent slice at one time, as a `requires` has it; and at both, entry and exit, as an `ensures` has it
 abbrev pub Slice : Type 0
-Slice = Bor (List Float)
+Slice = MutBor (List Float)
 
 abbrev pub LentSlice : Type 0
 LentSlice = Both Slice Slice

@@ -50,7 +50,7 @@ returns c e =
     let pairs : c.finite_pairs-pairs.result ≡ all_below (λ (y : ℕ). finite_drive (pair_in a.speeds.now a.inflows.now y)) counted.node_count-nodes.result =
     c.finite_pairs-pairs.ensures in
     let both : points.acceptable-points.result && c.finite_pairs-pairs.result ≡ acceptable j (state_in j rows) =
-    judged _ s.pre.0.0 _ _ _ _ _ _ e counted.before.initial-initial.ensures s.pre.0.1 counted.node_count-nodes.ensures points.acceptable-points.ensures pairs in
+    judged _ s.requires.0.0 _ _ _ _ _ _ e counted.before.initial-initial.ensures s.requires.0.1 counted.node_count-nodes.ensures points.acceptable-points.ensures pairs in
     both
 
 acceptable-requires : tie.Need-acceptable-points-requires

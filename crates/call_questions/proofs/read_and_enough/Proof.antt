@@ -1,4 +1,5 @@
 -- `call_questions::read_and_enough` meets its contract: what `read` answers decides, and question 20 where it is a yes. Assumes nothing.
+use mathlib.Core.Bool.{not}
 use mathlib.Core.Path.{◌≡◌, sym, ap, ap₂, ◌∙◌}
 use borrow.Author.Rules.{rules}
 use borrow.Author.Tests.{eq-eqb, ne_eqb}
@@ -29,7 +30,7 @@ returns : tie.Need-returns-then-not-enough
 unfolding first_asked
 returns c =
     let t = told c.before.before.before in
-    rw (eq-eqb _ 0 t.0, is_no c.before.enough.ensures c.if-not-enough.true)
+    rw (eq-eqb _ 0 t.0, is_no c.before.enough.ensures (ap not c.if-not-enough.true))
 
 returns-2 : tie.Need-returns-in-Refused
 unfolding first_asked
@@ -43,7 +44,7 @@ unfolding first_asked
 returns-3 c =
     let read : tie.In-Accepted-2 = c.before.before.before in
     let t = told read in
-    ap₂ accepted t.1 t.2 ∙ rw (eq-eqb _ 0 t.0, is_yes c.before.enough.ensures c.if-not-enough.false)
+    ap₂ accepted t.1 t.2 ∙ rw (eq-eqb _ 0 t.0, is_yes c.before.enough.ensures (ap not c.if-not-enough.false))
 
 pub read_and_enough_spec : {M : Type 1} → statement M
 read_and_enough_spec =

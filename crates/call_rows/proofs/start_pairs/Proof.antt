@@ -42,14 +42,14 @@ scheduled-at-requires c κs =
 write-pairs-requires : tie.Need-write_pairs-requires
 write-pairs-requires c κs =
     let from = read c in
-    let pre = (start from).pre in
+    let pre = (start from).requires in
     ((pre.0, from.scheduled_at.ensures.long, few_nodes _ pre.0), pre.1)
 
 returns : tie.Need-returns
 returns c =
     let stored : tie.After-write_pairs = c.before.before.before.before in
     let from = read stored.before in
-    let pair = start_pair _ (start from).pre.0 _ from.scheduled_at.ensures in
+    let pair = start_pair _ (start from).requires.0 _ from.scheduled_at.ensures in
     let a = (start from).args in
     let values = from.scheduled_at.last.1.1.0 in
     let left = stored.write_pairs.new.1.1.1 in

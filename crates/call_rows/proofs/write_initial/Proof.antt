@@ -23,7 +23,7 @@ abbrev entry : tie.At-loop-s invariant-loop decreases-loop → tie.Start invaria
 entry c = c.before.before.before.before.before.before
 
 head-at-requires : tie.Need-head_at-head-requires invariant-loop decreases-loop
-head-at-requires c κs = let pre = (entry c.before).pre.0 in (pre.0, omega (arith, pre.1))
+head-at-requires c κs = let pre = (entry c.before).requires.0 in (pre.0, omega (arith, pre.1))
 
 flow-at-requires : tie.Need-flow_at-flow-requires invariant-loop decreases-loop
 flow-at-requires c κs = head-at-requires c.before κs

@@ -42,8 +42,8 @@ abbrev turn : tie.After-pipe_at-l invariant-loop decreases-loop → tie.At-loop-
 turn c = c.before.before.before
 
 next : (c : tie.After-pipe_at-l invariant-loop decreases-loop)
-    → let s = start (tables (turn c)) in Onward s.args.job.now s.pre (turn c).loop-at.at c.pipe_at.result
-next c = onward _ (start (tables (turn c))).pre _ _ (turn c).loop-at.invariant.1 c.pipe_at.ensures
+    → let s = start (tables (turn c)) in Onward s.args.job.now s.requires (turn c).loop-at.at c.pipe_at.result
+next c = onward _ (start (tables (turn c))).requires _ _ (turn c).loop-at.invariant.1 c.pipe_at.ensures
 
 -- It stands before the needs of the turn's calls, so that of another head the prover tells this first.
 loop-again : tie.Need-loop-at-preserved invariant-loop decreases-loop
@@ -65,7 +65,7 @@ loop-again c =
 judge-requires : tie.Need-judge_pipe-judged-requires invariant-loop decreases-loop
 judge-requires c κs =
     let from = tables (turn c) in
-    let ok = (start from).pre in
+    let ok = (start from).requires in
     let within = (next c).here in (
       rw from.before.before.friction-friction.ensures (friction_fits_lem _ ok, omega (arith, within.reaches_in, friction_length _ ok)),
       rw from.before.initial-initial.ensures (initial_fits_lem _ ok, omega (arith, within.sections_in, initial_length _ ok)),
@@ -77,8 +77,8 @@ returns c =
     let loop : tie.At-loop-at invariant-loop decreases-loop = c.before.before in
     let from = tables loop in
     let inv = loop.loop-at.invariant in
-    let all = all_passed _ (start from).pre _ inv.1 (omega (arith, from.pipe_count-count.ensures.0)) in
-    rw all (inv.2.last (rw (← all) (section_least _ (start from).pre)), inv.3)
+    let all = all_passed _ (start from).requires _ inv.1 (omega (arith, from.pipe_count-count.ensures.0)) in
+    rw all (inv.2.last (rw (← all) (section_least _ (start from).requires)), inv.3)
 
 pub judge_spec : {M : Type 1} → statement M
 judge_spec =
@@ -91,7 +91,7 @@ judge_spec =
     (λ c κs. search rules)
     (λ c κs. search rules)
     (λ c. rw c.begun-at.ensures (search rules, walk_none, carried_none _ _ _, sym (all_none _)))
-    (λ c κs. ((start (tables c.before.before)).pre, here c, c.before.before.loop-at.invariant.1))
+    (λ c κs. ((start (tables c.before.before)).requires, here c, c.before.before.loop-at.invariant.1))
     judge-requires
     (λ c κs. omega (arith, (next c.before.before).low))
     (λ c. rw c.past-at.ensures (search rules))

@@ -38,14 +38,14 @@ loop-again c =
     (asked_more _ _ _ inv.1 inv.0 c.head_fits-fits.ensures, along_more _ _ _ _ _ inv.1 on.head_past-next.ensures, omega arith)
 
 head-past-requires : tie.Need-head_past-next-requires invariant-loop decreases-loop
-head-past-requires c κs = let s = start c.before.before.before in (s.pre.0.0, omega (arith, s.pre.0.1))
+head-past-requires c κs = let s = start c.before.before.before in (s.requires.0.0, omega (arith, s.requires.0.1))
 
 head-fits-requires : tie.Need-head_fits-fits-requires invariant-loop decreases-loop
-head-fits-requires c κs = let s = start (turn c) in (s.pre.1.0, omega (arith, s.pre.1.1))
+head-fits-requires c κs = let s = start (turn c) in (s.requires.1.0, omega (arith, s.requires.1.1))
 
 -- past the loop the walk stands at the pipe's last section
 head-fits-requires-2 : tie.Need-head_fits-fits-requires-2 invariant-loop decreases-loop
-head-fits-requires-2 c κs = let s = start c.before.before.before in (s.pre.1.0, omega (arith, s.pre.1.1))
+head-fits-requires-2 c κs = let s = start c.before.before.before in (s.requires.1.0, omega (arith, s.requires.1.1))
 
 returns : tie.Need-returns invariant-loop decreases-loop
 returns c =

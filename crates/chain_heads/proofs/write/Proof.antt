@@ -42,8 +42,8 @@ abbrev turn : tie.After-pipe_at-l invariant-loop decreases-loop → tie.At-loop-
 turn c = c.before.before.before
 
 next : (c : tie.After-pipe_at-l invariant-loop decreases-loop)
-    → let s = start (table (turn c)) in Onward s.args.job.now s.pre.0 (turn c).loop-at.at c.pipe_at.result
-next c = onward _ (start (table (turn c))).pre.0 _ _ (turn c).loop-at.invariant.1 c.pipe_at.ensures
+    → let s = start (table (turn c)) in Onward s.args.job.now s.requires.0 (turn c).loop-at.at c.pipe_at.result
+next c = onward _ (start (table (turn c))).requires.0 _ _ (turn c).loop-at.invariant.1 c.pipe_at.ensures
 
 -- from the end of a turn back to where its pipe has been written, and to the pipe
 abbrev written : tie.After-slice_known-in-loop-at-2-1 invariant-loop decreases-loop → tie.After-write_pipe-head invariant-loop decreases-loop
@@ -74,7 +74,7 @@ write-requires : tie.Need-write_pipe-head-requires invariant-loop decreases-loop
 write-requires c κs =
     let read : tie.After-pipe_at-l invariant-loop decreases-loop = c.before.before in
     let from = table (turn read) in
-    let pre = (start from).pre in
+    let pre = (start from).requires in
     let within = (next read).here in
     let inv = (turn read).loop-at.invariant in (
       rw from.before.friction-friction.ensures (friction_fits_lem _ pre.0, omega (arith, within.reaches_in, friction_length _ pre.0)),
@@ -86,7 +86,7 @@ returns c =
     let loop : tie.At-loop-at invariant-loop decreases-loop = c.before.before in
     let from = table loop in
     let inv = loop.loop-at.invariant in
-    rw (all_passed _ (start from).pre.0 _ inv.1 (omega (arith, from.pipe_count-count.ensures.0))) (inv.3.1, inv.4.1)
+    rw (all_passed _ (start from).requires.0 _ inv.1 (omega (arith, from.pipe_count-count.ensures.0))) (inv.3.1, inv.4.1)
 
 pub write_spec : {M : Type 1} → statement M
 write_spec =
@@ -98,7 +98,7 @@ write_spec =
     (λ c κs. search rules)
     (λ c κs. search rules)
     (λ c. rw c.begun-at.ensures (search rules, walk_none, carried_none _ _ _, (refl, fill_none _ _ 0), (refl, fill_none _ _ 0)))
-    (λ c κs. ((start (table c.before.before)).pre.0, here c, c.before.before.loop-at.invariant.1))
+    (λ c κs. ((start (table c.before.before)).requires.0, here c, c.before.before.loop-at.invariant.1))
     write-requires
     (λ c κs. omega (arith, (next (read_of (written c))).low))
     (λ c. rw c.past-at.ensures (search rules))

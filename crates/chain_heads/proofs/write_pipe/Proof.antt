@@ -38,7 +38,7 @@ loop-again c =
     )
 
 head-past-requires : tie.Need-head_past-next-requires invariant-loop decreases-loop
-head-past-requires c κs = let s = start (turn c) in (s.pre.0.0, omega (arith, s.pre.0.1))
+head-past-requires c κs = let s = start (turn c) in (s.requires.0.0, omega (arith, s.requires.0.1))
 
 -- past the loop the pipe's last section is stored
 abbrev over : tie.After-struct_known-2-1 invariant-loop decreases-loop → tie.At-loop-i invariant-loop decreases-loop

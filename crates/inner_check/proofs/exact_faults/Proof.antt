@@ -31,16 +31,16 @@ two-cp-requires c κs = (c.before.before.before.before.requires.0, omega (arith,
 
 fault-one-requires : tie.Need-fault_one-odd-requires invariant-loop decreases-loop
 fault-one-requires c κs =
-    let pre = (start c.before.before).pre in
+    let pre = (start c.before.before).requires in
     (pre.0, pre.1, omega arith)
 
 fault-one-requires-2 : tie.Need-fault_one-even-requires invariant-loop decreases-loop
 fault-one-requires-2 c κs =
-    let pre = (start c.before.before.before).pre in
+    let pre = (start c.before.before.before).requires in
     (pre.0, pre.1, omega arith)
 
 two-cp-requires-2 : tie.Need-two_cp-cp-requires-in-loop-i invariant-loop decreases-loop
-two-cp-requires-2 c κs = ((start c.before.before.before.before).pre.0, omega arith)
+two-cp-requires-2 c κs = ((start c.before.before.before.before).requires.0, omega arith)
 
 loop-again : tie.Need-loop-i-preserved invariant-loop decreases-loop
 loop-again c =
@@ -62,7 +62,7 @@ loop-again c =
 
 fault-one-requires-3 : tie.Need-fault_one-requires invariant-loop decreases-loop
 fault-one-requires-3 c κs =
-    let pre = (start c.before.before).pre in
+    let pre = (start c.before.before).requires in
     (pre.0, pre.1, omega arith)
 
 -- the section after the turns, and where another is left that one too
@@ -88,7 +88,7 @@ returns c =
 
 fault-one-requires-4 : tie.Need-fault_one-requires-2 invariant-loop decreases-loop
 fault-one-requires-4 c κs =
-    let pre = (start c.before.before.before.before).pre in
+    let pre = (start c.before.before.before.before).requires in
     (pre.0, pre.1, omega arith)
 
 returns-2 : tie.Need-returns invariant-loop decreases-loop

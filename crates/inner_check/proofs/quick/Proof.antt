@@ -1,7 +1,7 @@
 -- After i sections, where all of them are counted as clear and both sums are finite, none has a fault: each turn looks at two more, by the CP carried to
 -- them, and the one or two that are left are worked out after the turns. Assumes nothing.
-use mathlib.Core.Path.{◌≡◌, sym, ◌∙◌}
-use mathlib.Core.Bool.{true≢false}
+use mathlib.Core.Path.{◌≡◌, sym, ◌∙◌, ap}
+use mathlib.Core.Bool.{true≢false, not}
 use Prim.Native.Nat.{◌+◌, ◌-◌, ◌≤◌}
 use native.Mathlib.Nat.{zero-add}
 use native.Mathlib.Omega.{arith}
@@ -38,32 +38,32 @@ abbrev turn : tie.After-clear_one-odd invariant-loop decreases-loop → tie.In-l
 turn c = c.before.before.before.before
 
 is_usual : (c : tie.Else-not-usual invariant-loop decreases-loop) → let s = (start c).args.s in T (positive (s ⊞ s))
-is_usual c = above_zero _ great64 (c.if-not-usual.false)
+is_usual c = above_zero _ great64 ((ap not c.if-not-usual.false))
 
 two-cp-requires : tie.Need-two_cp-cp-requires invariant-loop decreases-loop
 two-cp-requires c κs = ((start c).requires.0, omega (arith, (start c).requires.2))
 
 cm-at-requires : tie.Need-cm_at-cm1-requires invariant-loop decreases-loop
-cm-at-requires c κs = ((start c.before.before.before).pre.0, omega arith)
+cm-at-requires c κs = ((start c.before.before.before).requires.0, omega arith)
 
 cm-at-requires-2 : tie.Need-cm_at-cm2-requires invariant-loop decreases-loop
-cm-at-requires-2 c κs = ((start c.before.before.before.before).pre.0, omega arith)
+cm-at-requires-2 c κs = ((start c.before.before.before.before).requires.0, omega arith)
 
 clear-one-requires : tie.Need-clear_one-odd-requires invariant-loop decreases-loop
 clear-one-requires c κs =
     let here : tie.At-loop-i invariant-loop decreases-loop = c.before.before.before.before in
-    in_floors (start here.before.before).pre.1 _ (omega arith)
+    in_floors (start here.before.before).requires.1 _ (omega arith)
 
 clear-one-requires-2 : tie.Need-clear_one-even-requires invariant-loop decreases-loop
 clear-one-requires-2 c κs =
     let here : tie.At-loop-i invariant-loop decreases-loop = c.before.before.before.before.before.before in
-    in_floors (start here.before.before).pre.1 _ (omega arith)
+    in_floors (start here.before.before).requires.1 _ (omega arith)
 
 two-cp-requires-2 : tie.Need-two_cp-cp-requires-in-loop-i invariant-loop decreases-loop
 two-cp-requires-2 c κs =
     let first : tie.After-clear_one-odd invariant-loop decreases-loop = c.before.before.before.before in
     let here : tie.At-loop-i invariant-loop decreases-loop = (turn first).before in
-    ((start here.before.before).pre.0, omega arith)
+    ((start here.before.before).requires.0, omega arith)
 
 -- by how long a slice can be
 add-i : tie.Need-overflow_add-i invariant-loop decreases-loop
@@ -90,7 +90,7 @@ loop-again c =
     let floors = begun.args.floors.now in
     let i = here.loop-i.i in
     let inv = here.loop-i.inv in
-    let floored = in_floors begun.pre.1 in (
+    let floored = in_floors begun.requires.1 in (
       two_cleared (sound_inner floors w s) here.loop-i.odd here.loop-i.even _ _ _ _ inv.0 (omega arith)
           (looked floors w s usual i (floored _ (omega arith)).1 (first_cp w s i inv.1) below.before.cm_at-cm1.ensures first.clear_one-odd.ensures.1)
           (looked floors w s usual (i + 1) (floored _ (omega arith)).1 (second_cp w s i inv.1) below.cm_at-cm2.ensures second.clear_one-even.ensures.1),
@@ -100,7 +100,7 @@ loop-again c =
 
 fault-one-requires : tie.Need-fault_one-last-requires invariant-loop decreases-loop
 fault-one-requires c κs =
-    let pre = (start c.before.before.before.before).pre in
+    let pre = (start c.before.before.before.before).requires in
     (pre.0, pre.1, omega arith)
 
 -- the sections of the turns, and the first after them
@@ -126,7 +126,7 @@ returns-3 c h = sym (counting_done _ (counted_one c.before) (omega arith)) ∙ h
 fault-one-requires-2 : tie.Need-fault_one-requires invariant-loop decreases-loop
 fault-one-requires-2 c κs =
     let before : tie.Else-finite-odd invariant-loop decreases-loop = c.before.before in
-    let pre = (start before.before.before.before.before).pre in
+    let pre = (start before.before.before.before.before).requires in
     (pre.0, pre.1, omega arith)
 
 returns-4 : tie.Need-returns invariant-loop decreases-loop

@@ -92,7 +92,7 @@ returns c =
 write-one-requires : tie.Need-write_one-requires
 write-one-requires c κs =
     let done = turns c in
-    let pre = (start done).pre in
+    let pre = (start done).requires in
     let u = after_turns done in (
       (still_cut pre.0 (heads_length u) (flows_length u), omega (arith, heads_length u, done.commit_twos-carried.ensures.0)),
       (omega (arith, pre.1, heads_length u, highest_length u), omega (arith, pre.1, heads_length u, lowest_length u)),
@@ -108,7 +108,7 @@ write-one-requires-2 c κs =
     let next : tie.Else-end-heads = c.before.before.before.before in
     let first = one next.before in
     let done = turns first.before in
-    let pre = (start done).pre in
+    let pre = (start done).requires in
     let u = after_one first in (
       (still_cut pre.0 (heads_length u) (flows_length u), omega (arith, next.if-end-heads.false, heads_length u, done.commit_twos-carried.ensures.0)),
       (omega (arith, pre.1, heads_length u, highest_length u), omega (arith, pre.1, heads_length u, lowest_length u)),

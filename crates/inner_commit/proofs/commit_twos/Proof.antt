@@ -32,7 +32,7 @@ two-cp-requires c κs =
 write-two-requires : tie.Need-write_two-cp-requires invariant-loop decreases-loop
 write-two-requires c κs =
     let here : tie.At-loop-i invariant-loop decreases-loop = c.before.before.before.before.before in
-    let pre = (start here.before).pre in
+    let pre = (start here.before).requires in
     let u = here.loop-i.invariant.0 in (
       (still_cut pre.0.0 (heads_length u) (flows_length u), omega (arith, heads_length u)),
       (omega (arith, heads_length u, highest_length u), omega (arith, heads_length u, lowest_length u)),

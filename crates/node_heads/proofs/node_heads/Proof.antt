@@ -36,7 +36,7 @@ here : (c : tie.In-loop-node invariant-loop decreases-loop) → c.before.loop-no
 here c = omega (arith, ap length c.before.before.nodes-nodes.ensures)
 
 low : (c : tie.In-loop-node invariant-loop decreases-loop) → c.before.loop-node.node < 32
-low c = omega (arith, few_nodes _ (start c.before.before).pre.1, here c)
+low c = omega (arith, few_nodes _ (start c.before.before).requires.1, here c)
 
 node-with-requires : tie.Need-node_with-with_value-requires invariant-loop decreases-loop
 node-with-requires c κs =
@@ -96,10 +96,10 @@ returns c =
 
 -- room for it in each row
 head_there : (c : tie.In-loop-node invariant-loop decreases-loop) → c.before.loop-node.node < length c.before.loop-node.heads
-head_there c = omega (arith, low c, (start c.before.before).pre.3, c.before.loop-node.invariant.0.long)
+head_there c = omega (arith, low c, (start c.before.before).requires.3, c.before.loop-node.invariant.0.long)
 
 inflow_there : (c : tie.In-loop-node invariant-loop decreases-loop) → c.before.loop-node.node < length c.before.loop-node.inflows
-inflow_there c = omega (arith, low c, (start c.before.before).pre.4, c.before.loop-node.invariant.1.long)
+inflow_there c = omega (arith, low c, (start c.before.before).requires.4, c.before.loop-node.invariant.1.long)
 
 pub node_heads_spec : {M : Type 1} → statement M
 node_heads_spec =
@@ -110,7 +110,7 @@ node_heads_spec =
     (λ c κs. pairs_accepted _ c.before.before.before.before.requires.1)
     (λ c. (upto_none, upto_none))
     (λ c. omega (arith, low c))
-    (λ c. omega (arith, low c.before, (start c.before.before.before).pre.2))
+    (λ c. omega (arith, low c.before, (start c.before.before.before).requires.2))
     node-with-requires
     (λ c. omega (arith, low c.before.before))
     (λ c. low c.before.before)

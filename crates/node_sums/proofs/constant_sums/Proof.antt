@@ -33,7 +33,7 @@ loop-holds : tie.Need-loop-at-init invariant-loop decreases-loop
 loop-holds c = rw c.begun-at.ensures (search rules, walk_none, rw c.before.none-none.ensures t_none)
 
 pipe-at-requires : tie.Need-pipe_at-l-requires invariant-loop decreases-loop
-pipe-at-requires c κs = ((start c.before.before).pre, here c, c.before.before.loop-at.invariant.1)
+pipe-at-requires c κs = ((start c.before.before).requires, here c, c.before.before.loop-at.invariant.1)
 
 -- the pipe at hand, and the walk past it
 next : (c : tie.After-pipe_at-l invariant-loop decreases-loop)

@@ -1,6 +1,6 @@
 -- The loop asks node after node whether both numbers of its pair are finite, and returns at the first no. Assumes nothing.
-use mathlib.Core.Path.{◌≡◌, ap₂, ◌∙◌}
-use mathlib.Core.Bool.{◌&&◌}
+use mathlib.Core.Path.{◌≡◌, ap₂, ◌∙◌, ap}
+use mathlib.Core.Bool.{◌&&◌, not}
 use Prim.Native.Nat.{◌-◌}
 use native.Mathlib.Omega.{arith}
 use lib.ListN.{get_or}
@@ -37,15 +37,15 @@ asked c =
     let speeds = begun.args.speeds.now in
     let inflows = begun.args.inflows.now in
     let is : c.both_finite.result ≡ finite (get_or speeds node nan) && finite (get_or inflows node nan) = c.both_finite.ensures in
-    let speed = read speeds node (omega (arith, begun.pre, (turn c).loop-node-test.true)) in
-    let inflow = read inflows node (omega (arith, begun.pre, (turn c).loop-node-test.true)) in
+    let speed = read speeds node (omega (arith, begun.requires, (turn c).loop-node-test.true)) in
+    let inflow = read inflows node (omega (arith, begun.requires, (turn c).loop-node-test.true)) in
     is ∙ ap₂ (λ x y. finite x && finite y) speed inflow
 
 returns : tie.Need-returns-then-not-both_finite invariant-loop decreases-loop
-returns c = passing_stop _ (turn c.before).loop-node-test.taken (asked c.before) c.if-not-both_finite.true
+returns c = passing_stop _ (turn c.before).loop-node-test.taken (asked c.before) (ap not c.if-not-both_finite.true)
 
 loop-again : tie.Need-loop-node-preserved invariant-loop decreases-loop
-loop-again c = passing_step _ (turn c.before).before.loop-node.inv (turn c.before).loop-node-test.taken (asked c.before) c.if-not-both_finite.false
+loop-again c = passing_step _ (turn c.before).before.loop-node.inv (turn c.before).loop-node-test.taken (asked c.before) (ap not c.if-not-both_finite.false)
 
 pub finite_pairs_spec : {M : Type 1} → statement M
 finite_pairs_spec =

@@ -43,11 +43,11 @@ right c = nodes_right _ c.before.before.nodes-nodes.ensures c.counts-counts.ensu
 
 -- the loop has not passed the last node
 low : (c : tie.In-loop-node invariant-loop decreases-loop) → c.before.loop-node.node < 32
-low c = omega (arith, few_nodes _ (start (tables c)).pre.0, ap length (tables c).before.before.nodes-nodes.ensures)
+low c = omega (arith, few_nodes _ (start (tables c)).requires.0, ap length (tables c).before.before.nodes-nodes.ensures)
 
 -- there is room for its value
 there : (c : tie.In-loop-node invariant-loop decreases-loop) → c.before.loop-node.node < length c.before.loop-node.values
-there c = omega (arith, (start (tables c)).pre.2, c.before.loop-node.invariant.1.long, ap length (tables c).before.before.nodes-nodes.ensures)
+there c = omega (arith, (start (tables c)).requires.2, c.before.loop-node.invariant.1.long, ap length (tables c).before.before.nodes-nodes.ensures)
 
 -- It stands before the needs of the turn's calls, so that of a wrong sum the prover tells this first.
 loop-again : tie.Need-loop-node-preserved invariant-loop decreases-loop
@@ -74,7 +74,7 @@ value-at-requires c κs =
     let asked = (right (tables turn)).entries in
     let sum = turn.before.loop-node.invariant.0.sum in (
       least c,
-      (start (tables turn)).pre.1,
+      (start (tables turn)).requires.1,
       entries_within _ _ _ asked turn.loop-node-test.true sum c.schedule_count-count.ensures.0,
       entries_finite _ _ _ asked turn.loop-node-test.true sum c.schedule_count-count.ensures.0,
     )

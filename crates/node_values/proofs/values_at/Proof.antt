@@ -40,7 +40,7 @@ here c = rw (← (counted c).before.trips-trips.ensures, ← (counted c).trip_co
 
 -- what question 53 says of the record at hand, and its node as the code read it
 good : (c : tie.In-loop-i invariant-loop decreases-loop) → let job = (start (counted c).before).args.job.now in GoodTrip (node_table job) (trip_table job) c.before.loop-i.i
-good c = accepted_trip _ (start (counted c).before).pre.0.0 _ (here c)
+good c = accepted_trip _ (start (counted c).before).requires.0.0 _ (here c)
 
 node_is : (c : tie.After-node_of-node invariant-loop decreases-loop)
     → c.node_of-node.result ≡ (trip_in (trip_table (start (counted (turn c)).before).args.job.now) (turn c).before.loop-i.i).node
@@ -53,13 +53,13 @@ value_there : (c : tie.After-node_of-node invariant-loop decreases-loop) → c.n
 value_there c = omega (arith, present c, (turn c).before.loop-i.invariant.2.long)
 
 low : (c : tie.After-node_of-node invariant-loop decreases-loop) → c.node_of-node.result < 32
-low c = omega (arith, few_nodes _ (start (counted (turn c)).before).pre.0.0, present c)
+low c = omega (arith, few_nodes _ (start (counted (turn c)).before).requires.0.0, present c)
 
 speed_there : (c : tie.After-node_of-node invariant-loop decreases-loop) → c.node_of-node.result < length (start (counted (turn c)).before).args.speeds.now
-speed_there c = omega (arith, present c, (start (counted (turn c)).before).pre.1.0)
+speed_there c = omega (arith, present c, (start (counted (turn c)).before).requires.1.0)
 
 inflow_there : (c : tie.After-node_of-node invariant-loop decreases-loop) → c.node_of-node.result < length (start (counted (turn c)).before).args.inflows.now
-inflow_there c = omega (arith, present c, (start (counted (turn c)).before).pre.1.1)
+inflow_there c = omega (arith, present c, (start (counted (turn c)).before).requires.1.1)
 
 loop-holds : tie.Need-loop-i-init invariant-loop decreases-loop
 unfolding value_by last_that
@@ -75,7 +75,7 @@ loop-again c =
     let a = begun.args in (
       omega (arith, at.loop-i-test.taken),
       simp length-set at.before.loop-i.inv.1,
-      record_taken _ begun.pre.0.0 _ a.speeds.now a.inflows.now _ (here at) (counted at).before.trips-trips.ensures read.node_of-node.ensures (speed_there read) (inflow_there read)
+      record_taken _ begun.requires.0.0 _ a.speeds.now a.inflows.now _ (here at) (counted at).before.trips-trips.ensures read.node_of-node.ensures (speed_there read) (inflow_there read)
           at.before.loop-i.inv.2 c.value_by.ensures,
     )
 
@@ -97,7 +97,7 @@ returns c =
     let loop : tie.At-loop-i invariant-loop decreases-loop = c.before in
     let count : tie.After-trip_count-count invariant-loop decreases-loop = loop.before in
     let begun = start count.before in
-    all_taken _ begun.pre.0.0 _ begun.args.speeds.now begun.args.inflows.now {i = loop.loop-i.i}
+    all_taken _ begun.requires.0.0 _ begun.args.speeds.now begun.args.inflows.now {i = loop.loop-i.i}
     (omega (arith, count.trip_count-count.ensures, ap length count.before.trips-trips.ensures, c.loop-i-test.false)) loop.loop-i.invariant.2
 
 pub values_at_spec : {M : Type 1} → statement M

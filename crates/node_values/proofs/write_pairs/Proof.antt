@@ -32,14 +32,14 @@ here : (c : tie.In-loop-node invariant-loop decreases-loop) → c.before.loop-no
 here c = omega (arith, ap length c.before.before.nodes-nodes.ensures)
 
 low : (c : tie.In-loop-node invariant-loop decreases-loop) → c.before.loop-node.node < 32
-low c = omega (arith, few_nodes _ (start c.before.before).pre.0.0, here c)
+low c = omega (arith, few_nodes _ (start c.before.before).requires.0.0, here c)
 
 -- the rows are as long as they were, and that is enough
 speed_there : (c : tie.In-loop-node invariant-loop decreases-loop) → c.before.loop-node.node < length c.before.loop-node.speeds
-speed_there c = omega (arith, here c, (start c.before.before).pre.1.0, c.before.loop-node.invariant.0.long)
+speed_there c = omega (arith, here c, (start c.before.before).requires.1.0, c.before.loop-node.invariant.0.long)
 
 inflow_there : (c : tie.In-loop-node invariant-loop decreases-loop) → c.before.loop-node.node < length c.before.loop-node.inflows
-inflow_there c = omega (arith, here c, (start c.before.before).pre.1.1, c.before.loop-node.invariant.1.long)
+inflow_there c = omega (arith, here c, (start c.before.before).requires.1.1, c.before.loop-node.invariant.1.long)
 
 pair-of-requires : tie.Need-pair_of-pair-requires invariant-loop decreases-loop
 pair-of-requires c κs =
@@ -80,9 +80,9 @@ write_pairs_spec =
     (λ c κs. pairs_accepted _ c.before.before.before.before.before.requires.0.0)
     (λ c. (upto_none, upto_none))
     (λ c. omega (arith, low c))
-    (λ c. omega (arith, here c.before, (start c.before.before.before).pre.0.1))
+    (λ c. omega (arith, here c.before, (start c.before.before.before).requires.0.1))
     (λ c. omega (arith, low c.before))
-    (λ c. omega (arith, here c.before.before, (start c.before.before.before.before).pre.0.2))
+    (λ c. omega (arith, here c.before.before, (start c.before.before.before.before).requires.0.2))
     pair-of-requires
     (λ c. omega (arith, low (turn c)))
     (λ c. speed_there (turn c))

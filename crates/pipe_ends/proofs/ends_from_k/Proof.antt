@@ -34,10 +34,10 @@ here c = omega (arith, c.before.before.before.before.pipe_count-count.ensures.0)
 
 -- there is room for the ends of one pipe more
 room : (c : tie.In-loop-at invariant-loop decreases-loop) → c.before.before.loop-at.at.pipe * 4 + 4 ≤ length c.before.before.loop-at.spare-1
-room c = omega (arith, here c, c.before.before.loop-at.invariant.2, (start c.before.before).pre.2)
+room c = omega (arith, here c, c.before.before.loop-at.invariant.2, (start c.before.before).requires.2)
 
 pipe-at-requires : tie.Need-pipe_at-l-requires invariant-loop decreases-loop
-pipe-at-requires c κs = ((start c.before.before).pre.0, here c, c.before.before.loop-at.invariant.1)
+pipe-at-requires c κs = ((start c.before.before).requires.0, here c, c.before.before.loop-at.invariant.1)
 
 -- the pipe at hand, and the walk past it
 next : (c : tie.After-pipe_at-l invariant-loop decreases-loop)
@@ -49,7 +49,7 @@ next c =
 pipe-ends-requires : tie.Need-pipe_ends-requires invariant-loop decreases-loop
 pipe-ends-requires c κs =
     let read : tie.After-pipe_at-l invariant-loop decreases-loop = c.before in
-    let rows = (start read.before.before.before).pre.1 in
+    let rows = (start read.before.before.before).requires.1 in
     (omega (arith, (next read).here.start_low, rows), omega (arith, (next read).here.finish_low, rows), room read.before)
 
 past-requires : tie.Need-past-at-requires invariant-loop decreases-loop

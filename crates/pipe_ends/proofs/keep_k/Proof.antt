@@ -36,7 +36,7 @@ abbrev entry : tie.At-loop-at invariant-loop decreases-loop → tie.Start invari
 entry c = start c.before.before
 
 loop-holds : tie.Need-loop-at-init invariant-loop decreases-loop
-loop-holds c = rw c.begun-at.ensures (search rules, walk_none, (start c.before).pre.1 ∙ b_none _ _ _, refl, k_none _ _ _ _, refl)
+loop-holds c = rw c.begun-at.ensures (search rules, walk_none, (start c.before).requires.1 ∙ b_none _ _ _, refl, k_none _ _ _ _, refl)
 
 -- the walk has not passed the last pipe
 here : (c : tie.In-loop-at invariant-loop decreases-loop) → c.before.before.loop-at.at.pipe < pipe_count (pipe_table (entry c.before.before).args.job.now)
@@ -44,10 +44,10 @@ here c = omega (arith, c.before.before.before.before.pipe_count-count.ensures.0)
 
 -- there is room for the ends of one pipe more
 room : (c : tie.In-loop-at invariant-loop decreases-loop) → c.before.before.loop-at.at.pipe * 4 + 4 ≤ length c.before.before.loop-at.spare
-room c = omega (arith, here c, c.before.before.loop-at.invariant.3, (entry c.before.before).pre.2)
+room c = omega (arith, here c, c.before.before.loop-at.invariant.3, (entry c.before.before).requires.2)
 
 pipe-at-requires : tie.Need-pipe_at-l-requires invariant-loop decreases-loop
-pipe-at-requires c κs = ((entry c.before.before).pre.0.accepted, here c, c.before.before.loop-at.invariant.1)
+pipe-at-requires c κs = ((entry c.before.before).requires.0.accepted, here c, c.before.before.loop-at.invariant.1)
 
 -- the pipe at hand, and the walk past it
 next : (c : tie.After-pipe_at-l invariant-loop decreases-loop)
@@ -58,7 +58,7 @@ next c =
     onward _ (entry loop).requires.0.accepted _ _ loop.loop-at.invariant.1 c.pipe_at.ensures
 
 k-at-start-requires : tie.Need-k_at_start-at_start-requires invariant-loop decreases-loop
-k-at-start-requires c κs = ((entry c.before.before.before).pre.0, record { number = _; is = c.pipe_at.ensures })
+k-at-start-requires c κs = ((entry c.before.before.before).requires.0, record { number = _; is = c.pipe_at.ensures })
 
 k-at-finish-requires : tie.Need-k_at_finish-at_finish-requires invariant-loop decreases-loop
 k-at-finish-requires c κs = k-at-start-requires c.before κs

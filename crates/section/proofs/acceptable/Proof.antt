@@ -22,7 +22,7 @@ floor-at-requires : tie.Need-floor_at-requires invariant-loop decreases-loop
 floor-at-requires c κs =
     let turn : tie.In-loop-s invariant-loop decreases-loop = c.before.before.before.before in
     let begun = start turn.before in
-    (search rules, floor_finite begun.args.initial.now _ (omega arith) begun.pre.0.table_fits)
+    (search rules, floor_finite begun.args.initial.now _ (omega arith) begun.requires.0.table_fits)
 
 -- what a turn adds is told by question 22 at this section
 loop-again : tie.Need-loop-s-preserved invariant-loop decreases-loop

@@ -44,10 +44,10 @@ here c = omega (arith, c.before.before.before.before.pipe_count-count.ensures.0)
 
 -- the pipe's four numbers stand in the spare
 room : (c : tie.In-loop-at invariant-loop decreases-loop) → c.before.before.loop-at.at.pipe * 4 + 4 ≤ length (entry c.before.before).args.spare.now
-room c = omega (arith, here c, (entry c.before.before).pre.1)
+room c = omega (arith, here c, (entry c.before.before).requires.1)
 
 pipe-at-requires : tie.Need-pipe_at-l-requires invariant-loop decreases-loop
-pipe-at-requires c κs = ((entry c.before.before).pre.0.accepted, here c, c.before.before.loop-at.invariant.1)
+pipe-at-requires c κs = ((entry c.before.before).requires.0.accepted, here c, c.before.before.loop-at.invariant.1)
 
 -- the pipe at hand, and the walk past it
 next : (c : tie.After-pipe_at-l invariant-loop decreases-loop)
@@ -58,12 +58,12 @@ next c =
     onward _ (entry loop).requires.0.accepted _ _ loop.loop-at.invariant.1 c.pipe_at.ensures
 
 inner-faults-requires : tie.Need-inner_faults-within-requires invariant-loop decreases-loop
-inner-faults-requires c κs = ((entry c.before.before.before).pre.0, record { number = _; is = c.pipe_at.ensures })
+inner-faults-requires c κs = ((entry c.before.before.before).requires.0, record { number = _; is = c.pipe_at.ensures })
 
 end-faults-requires : tie.Need-end_faults-ends-requires invariant-loop decreases-loop
 end-faults-requires c κs =
     let read : tie.After-pipe_at-l invariant-loop decreases-loop = c.before.before in
-    ((entry read.before.before.before).pre.0.accepted, record { number = _; is = read.pipe_at.ensures }, room read.before)
+    ((entry read.before.before.before).requires.0.accepted, record { number = _; is = read.pipe_at.ensures }, room read.before)
 
 -- what a turn adds is small
 few :

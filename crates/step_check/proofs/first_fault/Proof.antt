@@ -42,7 +42,7 @@ here : (c : tie.In-loop-at invariant-loop decreases-loop) → c.before.before.lo
 here c = omega (arith, c.before.before.before.before.pipe_count-count.ensures.0)
 
 pipe-at-requires : tie.Need-pipe_at-l-requires invariant-loop decreases-loop
-pipe-at-requires c κs = ((entry c.before.before).pre.0.accepted, here c, c.before.before.loop-at.invariant.1)
+pipe-at-requires c κs = ((entry c.before.before).requires.0.accepted, here c, c.before.before.loop-at.invariant.1)
 
 -- the pipe at hand, and the walk past it
 next : (c : tie.After-pipe_at-l invariant-loop decreases-loop)
@@ -55,7 +55,7 @@ next c =
 first-in-pipe-requires : tie.Need-first_in_pipe-found-requires invariant-loop decreases-loop
 first-in-pipe-requires c κs =
     let s = entry c.before.before.before in
-    (s.pre.0, record { number = _; is = c.pipe_at.ensures }, omega (arith, here c.before, s.pre.1))
+    (s.requires.0, record { number = _; is = c.pipe_at.ensures }, omega (arith, here c.before, s.requires.1))
 
 -- the walk at the pipe that was searched
 abbrev loop-of : tie.After-first_in_pipe-found invariant-loop decreases-loop → tie.At-loop-at invariant-loop decreases-loop

@@ -28,13 +28,13 @@ here : (c : tie.Start invariant-loop decreases-loop) → Within c.args.job.now c
 here c = within _ c.requires.0.accepted _ _ c.requires.1.is
 
 new-at-requires : tie.Need-new_at-x-requires invariant-loop decreases-loop
-new-at-requires c κs = let s = start c.before in (s.pre.0, s.pre.1, omega arith, s.pre.2)
+new-at-requires c κs = let s = start c.before in (s.requires.0, s.requires.1, omega arith, s.requires.2)
 
 floor-of-requires : tie.Need-floor_of-requires invariant-loop decreases-loop
 floor-of-requires c κs =
     let turn : tie.In-loop-i invariant-loop decreases-loop = c.before.before in
     let s = start turn.before in
-    (s.pre.0.accepted, omega (arith, here s, turn.loop-i-test.true))
+    (s.requires.0.accepted, omega (arith, here s, turn.loop-i-test.true))
 
 -- what is found at this section is its fault
 found :

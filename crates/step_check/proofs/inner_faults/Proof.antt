@@ -25,19 +25,19 @@ here c = within _ (start c).requires.0.accepted _ _ (start c).requires.1.is
 part-faults-end : tie.Need-slice_bounds-faults-end
 part-faults-end c =
     let read = tables c in
-    omega (arith, here read, friction_length _ (start read).pre.0.accepted, ap length read.before.friction-friction.ensures)
+    omega (arith, here read, friction_length _ (start read).requires.0.accepted, ap length read.before.friction-friction.ensures)
 
 part-faults-end-2 : tie.Need-slice_bounds-faults-end-2
 part-faults-end-2 c =
     let read = tables c.before in
-    omega (arith, here read, initial_length _ (start read).pre.0.accepted, ap length read.initial-initial.ensures)
+    omega (arith, here read, initial_length _ (start read).requires.0.accepted, ap length read.initial-initial.ensures)
 
 faults-requires : tie.Need-faults-requires
 faults-requires c κs =
     let read = tables c.before.before.before.before in
     let s = start read in
     let l = laid_of s.args.l in
-    (rw read.before.friction-friction.ensures (cut_to_pipe _ _ _ s.pre.0 l s.pre.1), rw read.initial-initial.ensures (floored _ _ _ s.pre.0 l s.pre.1))
+    (rw read.before.friction-friction.ensures (cut_to_pipe _ _ _ s.requires.0 l s.requires.1), rw read.initial-initial.ensures (floored _ _ _ s.requires.0 l s.requires.1))
 
 returns : tie.Need-returns
 returns c =
@@ -45,8 +45,8 @@ returns c =
     let s = start read in
     let l = laid_of s.args.l in
     let heads = s.args.heads.now in
-    let n = cut_length s.args.job.now heads s.args.flows.now s.pre.0 l s.pre.1 heads s.pre.0.heads_long in
-    (omega (arith, n, c.faults.ensures.0), inner_judged _ _ _ s.pre.0 l s.pre.1 read.before.friction-friction.ensures read.initial-initial.ensures c.faults.result c.faults.ensures.1)
+    let n = cut_length s.args.job.now heads s.args.flows.now s.requires.0 l s.requires.1 heads s.requires.0.heads_long in
+    (omega (arith, n, c.faults.ensures.0), inner_judged _ _ _ s.requires.0 l s.requires.1 read.before.friction-friction.ensures read.initial-initial.ensures c.faults.result c.faults.ensures.1)
 
 pub inner_faults_spec : {M : Type 1} → statement M
 inner_faults_spec =
@@ -70,10 +70,10 @@ inner_faults_spec =
     (λ c. omega (arith, here (tables c.before.before)))
     (λ c. search rules)
     (λ c. search rules)
-    (λ c. let read = tables c.before.before in omega (arith, here read, (start read).pre.0.heads_long))
+    (λ c. let read = tables c.before.before in omega (arith, here read, (start read).requires.0.heads_long))
     (λ c. omega (arith, here (tables c.before.before.before)))
     (λ c. search rules)
     (λ c. search rules)
-    (λ c. let read = tables c.before.before.before in omega (arith, here read, (start read).pre.0.flows_long))
+    (λ c. let read = tables c.before.before.before in omega (arith, here read, (start read).requires.0.flows_long))
     faults-requires
     returns)

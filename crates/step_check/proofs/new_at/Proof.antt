@@ -56,15 +56,15 @@ part-inner-at-end : tie.Need-slice_bounds-inner_at-end
 part-inner-at-end c =
     let table : tie.After-friction-friction = c.before.before.before in
     let s = entry table.before in
-    omega (arith, here s, friction_length _ s.pre.0.accepted, ap length table.friction-friction.ensures)
+    omega (arith, here s, friction_length _ s.requires.0.accepted, ap length table.friction-friction.ensures)
 
 inner-at-requires : tie.Need-inner_at-requires
 inner-at-requires c κs =
     let table : tie.After-friction-friction = c.before.before.before.before.before.before in
     let s = entry table.before in
     let heads = s.args.heads.now in
-    let n = cut_length s.args.job.now heads s.args.flows.now s.pre.0 (laid_of s.args.l) s.pre.1 heads s.pre.0.heads_long in
-    (rw table.friction-friction.ensures (cut_to_pipe _ _ _ s.pre.0 (laid_of s.args.l) s.pre.1), omega (arith, n, after_start table.before, before_finish table.before))
+    let n = cut_length s.args.job.now heads s.args.flows.now s.requires.0 (laid_of s.args.l) s.requires.1 heads s.requires.0.heads_long in
+    (rw table.friction-friction.ensures (cut_to_pipe _ _ _ s.requires.0 (laid_of s.args.l) s.requires.1), omega (arith, n, after_start table.before, before_finish table.before))
 
 returns-3 : tie.Need-returns
 returns-3 c =
@@ -77,7 +77,7 @@ returns-3 c =
     let l = laid_of args.l in
     let e : suc (args.i - 1) ≡ args.i = omega arith in
     rw table.friction-friction.ensures at c.inner_at.ensures
-    ∙ cut_is _ _ _ s.pre.0 l s.pre.1 (args.i - 1) (omega arith)
+    ∙ cut_is _ _ _ s.requires.0 l s.requires.1 (args.i - 1) (omega arith)
     ∙ inner_new args.job.now l args.spare.now (args.p * 4) args.heads.now args.flows.now (args.i - 1) (omega arith)
     ∙ ap (new_by_spare args.job.now l args.spare.now (args.p * 4) args.heads.now args.flows.now) e
 
@@ -104,10 +104,10 @@ new_at_spec =
     (λ c. omega (arith, here (entry (inside c.before))))
     (λ c. search rules)
     (λ c. search rules)
-    (λ c. let s = entry (inside c.before) in omega (arith, here s, s.pre.0.heads_long))
+    (λ c. let s = entry (inside c.before) in omega (arith, here s, s.requires.0.heads_long))
     (λ c. omega (arith, here (entry (inside c.before.before))))
     (λ c. search rules)
     (λ c. search rules)
-    (λ c. let s = entry (inside c.before.before) in omega (arith, here s, s.pre.0.flows_long))
+    (λ c. let s = entry (inside c.before.before) in omega (arith, here s, s.requires.0.flows_long))
     inner-at-requires
     returns-3)

@@ -42,7 +42,7 @@ here : (c : tie.In-loop-at invariant-loop decreases-loop) → c.before.before.lo
 here c = omega (arith, c.before.before.before.before.pipe_count-count.ensures.0)
 
 pipe-at-requires : tie.Need-pipe_at-l-requires invariant-loop decreases-loop
-pipe-at-requires c κs = ((entry c.before.before).pre.0.0.accepted, here c, c.before.before.loop-at.invariant.1)
+pipe-at-requires c κs = ((entry c.before.before).requires.0.0.accepted, here c, c.before.before.loop-at.invariant.1)
 
 -- the pipe at hand, and the walk past it
 next : (c : tie.After-pipe_at-l invariant-loop decreases-loop)
@@ -58,13 +58,13 @@ commit-pipe-requires c κs =
     let loop : tie.At-loop-at invariant-loop decreases-loop = read.before.before.before in
     let s = entry loop in
     let long = loop.loop-at.invariant.2 in
-    let lent = s.pre.0.0 in (
+    let lent = s.requires.0.0 in (
       (
         record { accepted = lent.accepted; heads_long = omega (arith, long.0, lent.heads_long); flows_long = omega (arith, long.1, lent.flows_long) },
         record { number = _; is = read.pipe_at.ensures },
-        omega (arith, here read.before, s.pre.0.1),
+        omega (arith, here read.before, s.requires.0.1),
       ),
-      (omega (arith, long.2, s.pre.1.0), omega (arith, long.3, s.pre.1.1)),
+      (omega (arith, long.2, s.requires.1.0), omega (arith, long.3, s.requires.1.1)),
     )
 
 -- from the end of a turn back to its commit, and to its pipe

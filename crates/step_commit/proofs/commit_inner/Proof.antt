@@ -26,21 +26,21 @@ part-commit-end : tie.Need-slice_bounds-commit-end
 part-commit-end c =
     let read : tie.After-friction-friction = c.before.before.before in
     let s = start_of read.before in
-    omega (arith, here s, friction_length _ s.pre.0.0.accepted, ap length read.friction-friction.ensures)
+    omega (arith, here s, friction_length _ s.requires.0.0.accepted, ap length read.friction-friction.ensures)
 
 commit-requires : tie.Need-commit-requires
 commit-requires c κs =
     let cut : tie.After-struct_known-3-1 = c.before.before.before.before.before in
     let read : tie.After-friction-friction = cut.before.before.before in
     let s = start_of read.before in
-    let is = s.pre.0.1 in
+    let is = s.requires.0.1 in
     let heads = s.args.heads-1.now in
-    let n = cut_length _ heads s.args.flows-1.now s.pre.0.0 (laid_of s.args.l) is in
-    let long = n heads s.pre.0.0.heads_long in (
-      rw read.friction-friction.ensures (cut_to_pipe _ _ _ s.pre.0.0 (laid_of s.args.l) is),
+    let n = cut_length _ heads s.args.flows-1.now s.requires.0.0 (laid_of s.args.l) is in
+    let long = n heads s.requires.0.0.heads_long in (
+      rw read.friction-friction.ensures (cut_to_pipe _ _ _ s.requires.0.0 (laid_of s.args.l) is),
       (
-        omega (arith, n s.args.highest-1.now s.pre.1.0),
-        omega (arith, n s.args.lowest-1.now s.pre.1.1),
+        omega (arith, n s.args.highest-1.now s.requires.1.0),
+        omega (arith, n s.args.lowest-1.now s.requires.1.1),
       ),
     )
 
@@ -55,13 +55,13 @@ returns c =
     let job = s.args.job.now in
     let heads = s.args.heads-1.now in
     let flows = s.args.flows-1.now in
-    let lent = s.pre.0.0 in
+    let lent = s.requires.0.0 in
     let l = laid_of s.args.l in
-    let is = s.pre.0.1 in (
+    let is = s.requires.0.1 in (
       put_back job heads flows lent l is keep_new (λ x. x.head) heads lent.heads_long e.0,
       put_back job heads flows lent l is keep_new (λ x. x.flow) flows lent.flows_long e.1,
-      put_back job heads flows lent l is raised (λ x. x.head) s.args.highest-1.now s.pre.1.0 e.2,
-      put_back job heads flows lent l is lowered (λ x. x.head) s.args.lowest-1.now s.pre.1.1 e.3,
+      put_back job heads flows lent l is raised (λ x. x.head) s.args.highest-1.now s.requires.1.0 e.2,
+      put_back job heads flows lent l is lowered (λ x. x.head) s.args.lowest-1.now s.requires.1.1 e.3,
     )
 
 pub commit_inner_spec : {M : Type 1} → statement M
@@ -80,19 +80,19 @@ commit_inner_spec =
     (λ c. omega (arith, here (start_of (cut-from c.before))))
     (λ c. search rules)
     (λ c. search rules)
-    (λ c. let s = start_of (cut-from c.before) in omega (arith, here s, s.pre.0.0.heads_long))
+    (λ c. let s = start_of (cut-from c.before) in omega (arith, here s, s.requires.0.0.heads_long))
     (λ c. omega (arith, here (start_of (cut-from c.before.before))))
     (λ c. search rules)
     (λ c. search rules)
-    (λ c. let s = start_of (cut-from c.before.before) in omega (arith, here s, s.pre.0.0.flows_long))
+    (λ c. let s = start_of (cut-from c.before.before) in omega (arith, here s, s.requires.0.0.flows_long))
     (λ c. omega (arith, here (start_of (cut-from c.before.before.before))))
     (λ c. search rules)
     (λ c. search rules)
-    (λ c. let s = start_of (cut-from c.before.before.before) in omega (arith, here s, s.pre.1.0))
+    (λ c. let s = start_of (cut-from c.before.before.before) in omega (arith, here s, s.requires.1.0))
     (λ c. omega (arith, here (start_of (cut-from c.before.before.before.before))))
     (λ c. search rules)
     (λ c. search rules)
-    (λ c. let s = start_of (cut-from c.before.before.before.before) in omega (arith, here s, s.pre.1.1))
+    (λ c. let s = start_of (cut-from c.before.before.before.before) in omega (arith, here s, s.requires.1.1))
     commit-requires
     (λ c. search rules)
     (λ c. search rules)

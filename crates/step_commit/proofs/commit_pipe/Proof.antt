@@ -38,15 +38,15 @@ commit-end-requires c κs =
     let s = inner-from inner in
     let u = here s in
     let kept = inner.commit_inner.kept in (
-      omega (arith, kept.1.1.0, s.pre.0.0.heads_long),
-      omega (arith, kept.1.1.1.0, s.pre.0.0.flows_long),
-      omega (arith, kept.1.1.1.1.0, s.pre.1.0),
-      omega (arith, kept.1.1.1.1.1.0, s.pre.1.1),
-      omega (arith, s.pre.0.2),
+      omega (arith, kept.1.1.0, s.requires.0.0.heads_long),
+      omega (arith, kept.1.1.1.0, s.requires.0.0.flows_long),
+      omega (arith, kept.1.1.1.1.0, s.requires.1.0),
+      omega (arith, kept.1.1.1.1.1.0, s.requires.1.1),
+      omega (arith, s.requires.0.2),
     )
 
 add-commit-end : tie.Need-overflow-add-commit-end
-add-commit-end c = let s = inner-from (before-start (start-stored c)) in omega (arith, s.pre.0.2)
+add-commit-end c = let s = inner-from (before-start (start-stored c)) in omega (arith, s.requires.0.2)
 
 commit-end-requires-2 : tie.Need-commit_end-requires-2
 commit-end-requires-2 c κs =
@@ -56,11 +56,11 @@ commit-end-requires-2 c κs =
     let u = here s in
     let kept = inner.commit_inner.kept in
     let still = begun.commit_end.kept in (
-      omega (arith, kept.1.1.0, still.1.1.1.0, s.pre.0.0.heads_long),
-      omega (arith, kept.1.1.1.0, still.1.1.1.1.0, s.pre.0.0.flows_long),
-      omega (arith, kept.1.1.1.1.0, still.1.1.1.1.1.0, s.pre.1.0),
-      omega (arith, kept.1.1.1.1.1.0, still.1.1.1.1.1.1.0, s.pre.1.1),
-      omega (arith, s.pre.0.2),
+      omega (arith, kept.1.1.0, still.1.1.1.0, s.requires.0.0.heads_long),
+      omega (arith, kept.1.1.1.0, still.1.1.1.1.0, s.requires.0.0.flows_long),
+      omega (arith, kept.1.1.1.1.0, still.1.1.1.1.1.0, s.requires.1.0),
+      omega (arith, kept.1.1.1.1.1.0, still.1.1.1.1.1.1.0, s.requires.1.1),
+      omega (arith, s.requires.0.2),
     )
 
 returns : tie.Need-returns

@@ -34,7 +34,7 @@ returns : tie.Need-returns
 returns c =
     let cleared : tie.After-clear_spare = c.before.before.before in
     let done = ended cleared.before in
-    run_left _ _ (entry done).pre.0.accepted (ran done) done.run-ended.ensures.rest (ready_enough (ready done)) _ done.run-ended.result done.run-ended.ensures.result_is _
+    run_left _ _ (entry done).requires.0.accepted (ran done) done.run-ended.ensures.rest (ready_enough (ready done)) _ done.run-ended.result done.run-ended.ensures.result_is _
     (c.answer_of.ensures _) cleared.clear_spare.ensures
 
 pub carry_on_spec : {M : Type 1} → statement M

@@ -1,6 +1,6 @@
 -- `surge::run_on` meets its contract: the questions to a job, then 20, 21 and 22, then the steps. Assumes nothing.
 use mathlib.Core.Path.{◌≡◌, sym, ap, ◌∙◌}
-use mathlib.Core.Bool.{true}
+use mathlib.Core.Bool.{true, not}
 use borrow.Author.Rules.{rules}
 use Rattle.job.specs.Format.{job_of}
 use Rattle.reader.specs.Answer.{paper_read}
@@ -42,7 +42,7 @@ yes-20 c = c.before.before
 
 -- the yes to question 21
 within : (c : tie.Else-not-limit) → within_limit (entry (asked-20 c.before)).args.done (entry (asked-20 c.before)).args.count ≡ true
-within c = is_yes (asked-21 c.before).within_limit-limit.ensures c.if-not-limit.false
+within c = is_yes (asked-21 c.before).within_limit-limit.ensures (ap not c.if-not-limit.false)
 
 -- question 22 is asked of what the rows hold
 acceptable_is : (c : tie.After-acceptable-fit)
@@ -66,7 +66,7 @@ returns c =
 returns-2 : tie.Need-returns-then-not-fit
 returns-2 c =
     let fit : tie.After-acceptable-fit = c.before.before in
-    run_unacceptable _ _ (first_yes (yes-20 (asked-21 fit))) _ _ (within c.before) (is_no (acceptable_is fit) c.if-not-fit.true)
+    run_unacceptable _ _ (first_yes (yes-20 (asked-21 fit))) _ _ (within c.before) (is_no (acceptable_is fit) (ap not c.if-not-fit.true))
 
 carry-on-requires : tie.Need-carry_on-requires
 carry-on-requires c κs =
@@ -84,7 +84,7 @@ returns-4 c =
     let ran : tie.After-carry_on = highest.before.before.before.before.before in
     let sound : tie.Else-not-fit = ran.before.before.before.before.before.before.before.before in
     let fit : tie.After-acceptable-fit = sound.before.before in
-    ran.carry_on.ensures ∙ sym (run_ran _ _ (first_yes (yes-20 (asked-21 fit))) _ _ (within sound.before) (is_yes (acceptable_is fit) sound.if-not-fit.false))
+    ran.carry_on.ensures ∙ sym (run_ran _ _ (first_yes (yes-20 (asked-21 fit))) _ _ (within sound.before) (is_yes (acceptable_is fit) (ap not sound.if-not-fit.false)))
 
 pub run_on_spec : {M : Type 1} → statement M
 run_on_spec =

@@ -56,7 +56,7 @@ one-step-requires c κs =
     let in-loop : tie.In-loop-i invariant-loop decreases-loop = room.before.before in
     let sums : tie.After-constant_sums-sums invariant-loop decreases-loop = in-loop.before.before in
     let made : tie.After-roots-roots invariant-loop decreases-loop = sums.before in
-    let pre = (begin made.before).pre in
+    let pre = (begin made.before).requires in
     let ready = way_ready _ _ _ _ in-loop.before.loop-i.invariant.0 pre.0 in
     ((made.roots-roots.ensures, ready, omega (arith, pre.1, in-loop.loop-i-test.true), sums.constant_sums-sums.ensures), (omega (arith, in-loop.before.loop-i.invariant.1), omega (arith, in-loop.before.loop-i.invariant.2), omega (arith, in-loop.before.loop-i.invariant.3)))
 
@@ -97,7 +97,7 @@ run_spec =
     invariant-loop
     decreases-loop
     (λ c κs. search rules)
-    (λ c κs. (begin c.before).pre.0.accepted)
+    (λ c κs. (begin c.before).requires.0.accepted)
     loop-holds
     (λ c. search rules)
     (λ c. search rules)

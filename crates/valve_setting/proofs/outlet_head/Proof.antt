@@ -40,8 +40,8 @@ outlet_is job ok v = rw (pipes_length job ok) (ap (λ (n : ScheduledNode). head_
 abbrev start : tie.After-nodes-nodes → tie.Start
 start c = c.before.before
 
-last_valve : (c : tie.After-pipe_count-last) → let s = start c.before in EndsWithValve s.args.job.now s.pre.0
-last_valve c = let s = start c.before in ends_with_valve _ s.pre.0 s.pre.1
+last_valve : (c : tie.After-pipe_count-last) → let s = start c.before in EndsWithValve s.args.job.now s.requires.0
+last_valve c = let s = start c.before in ends_with_valve _ s.requires.0 s.requires.1
 
 -- It stands before the needs of the call, so that of another field the prover tells this first.
 returns : tie.Need-returns

@@ -45,7 +45,7 @@ returns c =
     let asked : tie.After-answer_by-answer = yes.before in
     let out = worked-out asked.before in
     let s = start out.before.before in
-    set_left _ s.args.level s.args.q _ _ s.pre.1.0 s.pre.1.1 (sym (verdict asked.before) ∙ yes.if-given.true) done.write.ensures.0
+    set_left _ s.args.level s.args.q _ _ s.requires.1.0 s.requires.1.1 (sym (verdict asked.before) ∙ yes.if-given.true) done.write.ensures.0
     done.write.ensures.1
     (answered asked yes.if-given.true
     ∙ ap coefficient (out.coefficient_for-a.ensures ∙ ap₂ (coefficient_for s.args.q) out.before.before.judge-judged.ensures.0 out.before.outlet_head-b.ensures))

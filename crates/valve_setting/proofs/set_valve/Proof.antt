@@ -1,6 +1,6 @@
 -- `valve_setting::set_valve` meets its contract: the questions to a job, then 51, then 52, then the setting. Assumes nothing.
 use mathlib.Core.Path.{◌≡◌, refl, sym, ap, ◌∙◌}
-use mathlib.Core.Bool.{true, ◌&&◌}
+use mathlib.Core.Bool.{true, ◌&&◌, not}
 use lib.Dec.{leb}
 use lib.ListN.{length}
 use borrow.Author.Rules.{rules}
@@ -33,7 +33,7 @@ accepted c = (told c.before.before).0
 
 -- 51 has a yes
 chained : (c : tie.Else-not-chain) → let a = (entry c.before).args in is_chain_with (job_of a.job.now) a.level a.q ≡ true
-chained c = is_yes c.before.is_chain_with-chain.ensures c.if-not-chain.false
+chained c = is_yes c.before.is_chain_with-chain.ensures (ap not c.if-not-chain.false)
 
 -- 52, by the rows' lengths
 held : (c : tie.Else-not-chain)
@@ -43,7 +43,7 @@ held : (c : tie.Else-not-chain)
 held c = rows_asked _ _ _ (told c.before.before.before).1 refl
 
 long : (c : tie.Else-not-hold) → let a = (entry c.before.before).args in rows_hold (job_of a.job.now) a.heads-1.now a.flows-1.now ≡ true
-long c = is_yes (held c.before) c.if-not-hold.false
+long c = is_yes (held c.before) (ap not c.if-not-hold.false)
 
 set-or-none-requires : tie.Need-set_or_none-requires
 set-or-none-requires c κs =
@@ -52,10 +52,10 @@ set-or-none-requires c κs =
     ((accepted asked, chain_first _ _ _ (chained yes.before)), rows_long _ _ _ (long yes))
 
 returns : tie.Need-returns-then-not-chain
-returns c = no_chain _ _ _ _ _ (accepted c.before) (is_no c.before.is_chain_with-chain.ensures c.if-not-chain.true)
+returns c = no_chain _ _ _ _ _ (accepted c.before) (is_no c.before.is_chain_with-chain.ensures (ap not c.if-not-chain.true))
 
 returns-2 : tie.Need-returns-then-not-hold
-returns-2 c = too_short _ _ _ _ _ (accepted c.before.before) (chained c.before) (is_no (held c.before) c.if-not-hold.true)
+returns-2 c = too_short _ _ _ _ _ (accepted c.before.before) (chained c.before) (is_no (held c.before) (ap not c.if-not-hold.true))
 
 returns-3 : tie.Need-returns-in-Refused
 returns-3 c =

@@ -45,7 +45,7 @@ returns : tie.Need-returns-then-stops
 returns c =
     let found : tie.After-check-found = c.before.before in
     let e = ends found in
-    one_stops _ _ _ (start e).pre.0.1 _ (valued e) _ (found.check-found.ensures _ e.write_ends.ensures.1) _ e.write_ends.ensures.2
+    one_stops _ _ _ (start e).requires.0.1 _ (valued e) _ (found.check-found.ensures _ e.write_ends.ensures.1) _ e.write_ends.ensures.2
     (sym c.before.stops.ensures ∙ c.if-stops.true)
 
 -- It stands before what the calls ask, so that of exchanged rows the prover tells this first.
@@ -61,7 +61,7 @@ returns-2 c =
     let pairs : PairsLeft a.job.now (values e).values_at.last.1.1.1.1.0 e.write_ends.last.1.1.1.1.1.1.1.0 a.speeds-1.now a.inflows-1.now left.0 left.1.0 =
     stored.write_pairs.ensures in
     let scanned = found.check-found.ensures _ e.write_ends.ensures.1 in
-    one_done _ _ _ (start e).pre.0.1 _ (valued e) _ scanned _ e.write_ends.ensures.2 (sym sound.before.stops.ensures ∙ sound.if-stops.left)
+    one_done _ _ _ (start e).requires.0.1 _ (valued e) _ scanned _ e.write_ends.ensures.2 (sym sound.before.stops.ensures ∙ sound.if-stops.left)
     (done.commit.ensures _ e.write_ends.ensures.1) e.write_ends.ensures.0 pairs
 
 -- the three rows for the nodes hold 32 entries, which is enough
@@ -92,13 +92,13 @@ commit-requires : tie.Need-commit-requires
 commit-requires c κs =
     let sound : tie.Else-stops = c.before.before.before.before.before in
     let e = ends sound.before.before in
-    let r = (start e).pre.0.1 in
+    let r = (start e).requires.0.1 in
     ((rows_lent r, spare_kept e), (ready_enough r highest, ready_enough r lowest))
 
 write-pairs-requires : tie.Need-write_pairs-requires
 write-pairs-requires c κs =
     let e = ends (clear (committed c)).before.before in
-    let r = (start e).pre.0.1 in
+    let r = (start e).requires.0.1 in
     ((r.accepted, (values e).values_at.ensures.long, e.write_ends.ensures.0.long), pairs_long r)
 
 -- the row of values is as long as it was; a longer path than `search` follows
