@@ -3,7 +3,8 @@ ghost use Rattle.std.specs.Prelude.{◌≡◌, not, ◌+◌, ◌<◌, ◌≤◌,
 ghost use Rattle.fields.specs.Bytes.{f64_at};
 ghost use Rattle.loops.specs.Loops.{all_below};
 ghost use Rattle.job.specs.Format.{trip_count, trip_in};
-ghost use Rattle.job.specs.Questions.{finite_not_below_zero, is_pump, first_of_node, rundown_fits, trip_fits, trips_fit};
+ghost use Rattle.job.specs.Questions.{finite_not_below_zero, is_pump, first_of_node};
+ghost use Rattle.job.specs.Questions.{rundown_fits, trip_fits, trips_fit};
 
 use job::nodes::kind;
 use job::trips::node_of;

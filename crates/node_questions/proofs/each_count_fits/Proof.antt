@@ -1,4 +1,7 @@
--- `node_questions::each_count_fits` meets its contract: a turn asks question 50 of one node and stops at the first no, so that those passed have a yes each. Assumes nothing.
+-- `node_questions::each_count_fits` meets its contract: a turn asks question 50 of one node and stops at the first no, so that those passed have a yes each.
+-- Assumes nothing.
+use mathlib.Core.Path.{ap}
+use mathlib.Core.Bool.{not}
 use Prim.Native.Nat.{◌-◌}
 use native.Mathlib.Omega.{arith}
 use Rattle.loops.proofs.All.{Passing, passing_none, passing_step, passing_stop, passing_done}
@@ -22,8 +25,8 @@ each_count_fits_spec =
     decreases-loop
     (λ c. passing_none _)
     (λ c κs. search rules)
-    (λ c. passing_stop _ c.before.before.loop-node-test.true c.before.count_fits.ensures c.if-not-count_fits.true)
+    (λ c. passing_stop _ c.before.before.loop-node-test.true c.before.count_fits.ensures (ap not c.if-not-count_fits.true))
     (λ c. search rules)
     (λ c. search rules)
-    (λ c. passing_step _ c.before.before.before.loop-node.invariant (omega arith) c.before.count_fits.ensures c.if-not-count_fits.false)
+    (λ c. passing_step _ c.before.before.before.loop-node.invariant (omega arith) c.before.count_fits.ensures (ap not c.if-not-count_fits.false))
     (λ c. passing_done _ c.before.loop-node.invariant c.loop-node-test.false))

@@ -16,4 +16,6 @@ figures_fit_kind_spec =
     (λ c κs. search rules)
     (λ c. rw (← c.before.before.before.kind-k.ensures.0, ne_eqb _ _ c.before.before.if-k-eq2.false, eq-eqb _ _ c.before.if-k-eq3.true) c.pump_fits.ensures)
     (λ c κs. search rules)
-    (λ c. rw (← c.before.before.before.kind-k.ensures.0, ne_eqb _ _ c.before.before.if-k-eq2.false, ne_eqb _ _ c.before.if-k-eq3.false) c.has_no_figures.ensures))
+    (λ c.
+    rw (← c.before.before.before.kind-k.ensures.0, ne_eqb _ _ c.before.before.if-k-eq2.false, ne_eqb _ _ c.before.if-k-eq3.false)
+    c.has_no_figures.ensures))

@@ -1,5 +1,5 @@
--- `node_questions::first_no` meets its contract: questions 10, 50, 53, 11 and 12 are answered of the tables that the file has, and the first no decides, as `firstNo`
--- goes. Assumes nothing.
+-- `node_questions::first_no` meets its contract: questions 10, 50, 53, 11 and 12 are answered of the tables that the file has, and the first no decides, as
+-- `first_no` goes. Assumes nothing.
 use mathlib.Core.Path.{◌≡◌}
 use mathlib.Core.Bool.{cond}
 use Prim.Native.Nat.{ℕ}

@@ -1,4 +1,5 @@
--- `node_questions::has_end` meets its contract: a turn asks one pipe and stops at the first that has an end at the node, so that none of those passed has one. Assumes nothing.
+-- `node_questions::has_end` meets its contract: a turn asks one pipe and stops at the first that has an end at the node, so that none of those passed has one.
+-- Assumes nothing.
 use mathlib.Core.Path.{ap}
 use mathlib.Core.Bool.{not}
 use Prim.Native.Nat.{◌-◌}

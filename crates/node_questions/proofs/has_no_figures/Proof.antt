@@ -6,4 +6,14 @@ use Rattle.node_questions.proofs.has_no_figures.Tie as tie
 
 pub has_no_figures_spec : {M : Type 1} → statement M
 unfolding has_no_figures
-has_no_figures_spec = tie.close (tie.spec (λ c. search rules) (λ c. search rules) (λ c κs. search rules) (λ c. search rules) (λ c κs. search rules) (λ c. search rules) (λ c κs. search rules) (λ c. rw (c.before.before.zero_bits_at.ensures, c.before.zero_bits_at-2.ensures, c.zero_bits_at-3.ensures)))
+has_no_figures_spec =
+    tie.close
+    (tie.spec
+    (λ c. search rules)
+    (λ c. search rules)
+    (λ c κs. search rules)
+    (λ c. search rules)
+    (λ c κs. search rules)
+    (λ c. search rules)
+    (λ c κs. search rules)
+    (λ c. rw (c.before.before.zero_bits_at.ensures, c.before.zero_bits_at-2.ensures, c.zero_bits_at-3.ensures)))

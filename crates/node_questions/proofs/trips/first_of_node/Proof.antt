@@ -1,4 +1,5 @@
 -- `node_questions::trips::first_of_node` meets its contract: a turn asks one record before record i and stops at the first of the same node. Assumes nothing.
+use mathlib.Core.Path.{ap}
 use mathlib.Core.Bool.{not}
 use Prim.Native.Nat.{◌-◌}
 use native.Mathlib.Omega.{arith}
@@ -25,8 +26,8 @@ first_of_node_spec =
     decreases-loop
     (λ c. passing_none _)
     (λ c κs. search rules)
-    (λ c. passing_stop _ c.before.before.loop-k-test.true c.before.nodes_differ.ensures c.if-not-nodes_differ.true)
+    (λ c. passing_stop _ c.before.before.loop-k-test.true c.before.nodes_differ.ensures (ap not c.if-not-nodes_differ.true))
     (λ c. search rules)
     (λ c. search rules)
-    (λ c. passing_step _ c.before.before.before.loop-k.invariant (omega arith) c.before.nodes_differ.ensures c.if-not-nodes_differ.false)
+    (λ c. passing_step _ c.before.before.before.loop-k.invariant (omega arith) c.before.nodes_differ.ensures (ap not c.if-not-nodes_differ.false))
     (λ c. passing_done _ c.before.loop-k.invariant c.loop-k-test.false))
