@@ -1,4 +1,5 @@
--- `value_questions::below_floor` meets its contract: each section is finite, so that its head may be compared, and a turn adds 1 for a head below its floor. Assumes nothing.
+-- `value_questions::below_floor` meets its contract: each section is finite, so that its head may be compared, and a turn adds 1 for a head below its floor.
+-- Assumes nothing.
 use Prim.Native.Nat.{◌-◌}
 use native.Mathlib.Omega.{arith}
 use Rattle.fields.specs.Finite.{finite_at}

@@ -1,4 +1,5 @@
--- `value_questions::below_zero` meets its contract: each R is finite, so that it may be compared, and a turn adds 1 for one that is below zero. Assumes nothing.
+-- `value_questions::below_zero` meets its contract: each R is finite, so that it may be compared, and a turn adds 1 for one that is below zero. Assumes
+-- nothing.
 use Prim.Native.Nat.{◌-◌}
 use native.Mathlib.Omega.{arith}
 use lib.Ieee.Scale.{finite}

@@ -1,6 +1,7 @@
--- `value_questions::first_no` meets its contract: questions 13 to 15 are asked of the tables that the file has, and the first no decides, as `firstNo` goes. Assumes nothing.
-use mathlib.Core.Path.{◌≡◌}
-use mathlib.Core.Bool.{true}
+-- `value_questions::first_no` meets its contract: questions 13 to 15 are asked of the tables that the file has, and the first no decides, as `first_no` goes.
+-- Assumes nothing.
+use mathlib.Core.Path.{◌≡◌, ap}
+use mathlib.Core.Bool.{true, not}
 use Prim.Native.Nat.{◌≤◌}
 use lib.ListN.{length}
 use Rattle.loops.proofs.Tests.{is_yes, is_no}
@@ -33,7 +34,11 @@ returns : tie.Need-returns-then-not-friction_right
 unfolding value_questions first_no
 returns c =
     let tables : tie.After-counts-counts = c.before.before in
-    rw (← (pipes tables).pipes-pipes.ensures, ← tables.before.before.before.friction-friction.ensures, is_no c.before.friction_right.ensures c.if-not-friction_right.true)
+    rw (
+      ← (pipes tables).pipes-pipes.ensures,
+      ← tables.before.before.before.friction-friction.ensures,
+      is_no c.before.friction_right.ensures (ap not c.if-not-friction_right.true),
+    )
 
 returns-2 : tie.Need-returns-then-not-initial_right
 unfolding value_questions first_no
@@ -44,8 +49,8 @@ returns-2 c =
       ← (pipes tables).pipes-pipes.ensures,
       ← tables.before.before.before.friction-friction.ensures,
       ← tables.before.before.initial-initial.ensures,
-      is_yes friction.before.friction_right.ensures friction.if-not-friction_right.false,
-      is_no c.before.initial_right.ensures c.if-not-initial_right.true,
+      is_yes friction.before.friction_right.ensures (ap not friction.if-not-friction_right.false),
+      is_no c.before.initial_right.ensures (ap not c.if-not-initial_right.true),
     )
 
 returns-3 : tie.Need-returns
@@ -61,8 +66,8 @@ returns-3 c =
       ← tables.before.before.initial-initial.ensures,
       ← tables.before.schedules-schedules.ensures,
       ← tables.counts-counts.ensures,
-      is_yes friction.before.friction_right.ensures friction.if-not-friction_right.false,
-      is_yes initial.before.initial_right.ensures initial.if-not-initial_right.false,
+      is_yes friction.before.friction_right.ensures (ap not friction.if-not-friction_right.false),
+      is_yes initial.before.initial_right.ensures (ap not initial.if-not-initial_right.false),
       ← c.before.schedules_right.ensures,
     )
     c.decide.ensures

@@ -6,4 +6,10 @@ use Rattle.value_questions.proofs.friction_right.Tie as tie
 
 pub friction_right_spec : {M : Type 1} → statement M
 unfolding friction_right
-friction_right_spec = tie.close (tie.spec (λ c κs. search rules) (λ c. search rules) (λ c κs. search rules) (λ c. rw (c.before.before.ends-all.ensures.1, c.friction_fits.ensures)))
+friction_right_spec =
+    tie.close
+    (tie.spec
+    (λ c κs. search rules)
+    (λ c. search rules)
+    (λ c κs. search rules)
+    (λ c. rw (c.before.before.ends-all.ensures.1, c.friction_fits.ensures)))

@@ -1,5 +1,5 @@
--- `value_questions::initial_fits` meets its contract: question 14 is two halves, and a half has a yes exactly where nothing is counted. A section is finite where
--- its three numbers are. Assumes nothing.
+-- `value_questions::initial_fits` meets its contract: question 14 is two halves, and a half has a yes exactly where nothing is counted. A section is finite
+-- where its three numbers are. Assumes nothing.
 use mathlib.Core.Path.{◌≡◌, ◌∙◌}
 use lib.Dec.{eqb}
 use Rattle.loops.proofs.Tests.{half_fails, half_holds}

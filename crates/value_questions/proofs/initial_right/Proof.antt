@@ -6,4 +6,10 @@ use Rattle.value_questions.proofs.initial_right.Tie as tie
 
 pub initial_right_spec : {M : Type 1} → statement M
 unfolding initial_right
-initial_right_spec = tie.close (tie.spec (λ c κs. search rules) (λ c. search rules) (λ c κs. search rules) (λ c. rw (c.before.section_count.ensures.0, c.initial_fits.ensures)))
+initial_right_spec =
+    tie.close
+    (tie.spec
+    (λ c κs. search rules)
+    (λ c. search rules)
+    (λ c κs. search rules)
+    (λ c. rw (c.before.section_count.ensures.0, c.initial_fits.ensures)))

@@ -1,4 +1,5 @@
--- `value_questions::out_of_range` meets its contract: each entry is finite, so that it may be compared, and a turn adds 1 for one below 0 or above 1. Assumes nothing.
+-- `value_questions::out_of_range` meets its contract: each entry is finite, so that it may be compared, and a turn adds 1 for one below 0 or above 1. Assumes
+-- nothing.
 use Prim.Native.Nat.{◌+◌, ◌-◌, ◌*◌}
 use native.Mathlib.Omega.{arith}
 use lib.Ieee.Scale.{finite}

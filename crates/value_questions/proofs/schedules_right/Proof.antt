@@ -1,8 +1,8 @@
--- `value_questions::schedules_right` meets its contract: a turn asks question 15 of one node's entries and stops at the first no. The place carried is the sum of
--- the counts before the node, which only grows, so a schedule that ends past the table tells that the table is too short; past the last node the place is the number
--- of all entries. Assumes nothing.
-use mathlib.Core.Path.{◌≡◌, sym}
-use mathlib.Core.Bool.{true, false, and-true}
+-- `value_questions::schedules_right` meets its contract: a turn asks question 15 of one node's entries and stops at the first no. The place carried is the sum
+-- of the counts before the node, which only grows, so a schedule that ends past the table tells that the table is too short; past the last node the place is
+-- the number of all entries. Assumes nothing.
+use mathlib.Core.Path.{◌≡◌, sym, ap}
+use mathlib.Core.Bool.{true, false, and-true, not}
 use mathlib.Core.List.{List}
 use Prim.Native.Nat.{ℕ, ◌+◌, ◌*◌, ◌-◌, ◌<◌}
 use lib.ListN.{length}
@@ -59,7 +59,8 @@ turn c = (counted c).before.before
 
 asked :
     (c : tie.After-schedule_fits invariant-loop decreases-loop)
-    → let tables = (start (turn c)).args in c.schedule_fits.result ≡ schedule_fits tables.nodes.now tables.counts.now tables.schedules.now (turn c).loop-node.node
+    → let tables = (start (turn c)).args in
+      c.schedule_fits.result ≡ schedule_fits tables.nodes.now tables.counts.now tables.schedules.now (turn c).loop-node.node
 unfolding schedule_fits
 asked c = rw (← c.before.kind.ensures.0, ← (counted c).schedule_count-count.ensures.0, ← (turn c).loop-node.invariant.0.sum) c.schedule_fits.ensures
 
@@ -68,7 +69,7 @@ loop-again c =
     let fits : tie.After-schedule_fits invariant-loop decreases-loop = c.before in
     let count = (counted fits).schedule_count-count.ensures in (
       sum_before_more _ _ (turn fits).loop-node.invariant.0 count.0 count.1,
-      passing_step _ (turn fits).loop-node.invariant.1 (omega arith) (asked fits) c.if-not-schedule_fits.false,
+      passing_step _ (turn fits).loop-node.invariant.1 (omega arith) (asked fits) (ap not c.if-not-schedule_fits.false),
     )
 
 returns : tie.Need-returns-then-schedules-next invariant-loop decreases-loop
@@ -81,7 +82,7 @@ returns-2 : tie.Need-returns-then-not-schedule_fits invariant-loop decreases-loo
 unfolding schedules_fit
 returns-2 c =
     let fits : tie.After-schedule_fits invariant-loop decreases-loop = c.before in
-    one_no _ _ _ (passing_stop _ (counted fits).before.loop-node-test.true (asked fits) c.if-not-schedule_fits.true)
+    one_no _ _ _ (passing_stop _ (counted fits).before.loop-node-test.true (asked fits) (ap not c.if-not-schedule_fits.true))
 
 returns-3 : tie.Need-returns invariant-loop decreases-loop
 unfolding schedules_fit
