@@ -2,32 +2,30 @@
 // first, and prints the pattern of each root, or the refusal.
 #![tactic(auto)]
 
-use libc::STDOUT_FILENO;
+use std::io;
+use std::io::Read;
 
 // A pattern of a NaN is passed over, since no operation makes a number of one.
-fn show(b: u64) {
+fn show(rt: &impl Print, b: u64) -> io::Result<()> {
     if b % 0x8000_0000_0000_0000 > 0x7ff0_0000_0000_0000 {
-        return;
+        return Ok(());
     }
     let answer = root::root(f64::from_bits(b));
     match answer {
-        root::Root::Value(r) => {
-            io::print_hex(STDOUT_FILENO, f64::to_bits(r), 16);
-            io::write_all(STDOUT_FILENO, b"\n");
-        }
-        root::Root::Refused => {
-            io::write_all(STDOUT_FILENO, b"refused 23\n");
-        }
+        root::Root::Value(r) => println!(rt; "{:016x}", f64::to_bits(r)),
+        root::Root::Refused => println!(rt; "refused 23"),
     }
 }
 
-fn main() {
-    let mut buffer = io::buffer();
-    let count = io::read_full(0, &mut buffer);
-    let n = count / 8;
-    let mut k: usize = 0;
-    while k < n {
-        show(fields::u64_at(&buffer, k * 8));
-        k += 1;
+// At most the 512 patterns of the first 4,096 bytes are read. A read that fails counts as the end.
+fn main(rt: HostRuntime) -> io::Result<()> {
+    let mut input = rt.stdin();
+    let mut pattern = [0u8; 8];
+    for _ in 0..512 {
+        if input.read_exact(&mut pattern).is_err() {
+            break;
+        }
+        show(&rt, fields::u64_at(&pattern, 0))?;
     }
+    Ok(())
 }
