@@ -5,7 +5,8 @@
 
 ghost use Rattle.std.specs.Prelude.{◌+◌, ◌≤◌, length};
 
-use libc::STDOUT_FILENO;
+use std::io;
+use std::io::Read;
 
 // The number of a pattern; of a NaN's, a NaN worked out, since no operation makes a number of one.
 fn number(b: u64) -> f64 {
@@ -37,19 +38,27 @@ fn part_length(
 }
 
 // One call.
-fn show(section: usize, head: f64, flow: f64, highest: f64, lowest: f64, lent: usize, mark: u8)
+fn show(
+    rt: &impl Print,
+    section: usize,
+    head: f64,
+    flow: f64,
+    highest: f64,
+    lowest: f64,
+    lent: usize,
+    mark: u8,
+) -> io::Result<()>
     requires { lent ≤ 128 }
 {
     let mut bytes = [mark; 128];
     let n = part_length(section, head, flow, highest, lowest, lent, &mut bytes);
-    io::print_decimal(STDOUT_FILENO, n as u64);
-    io::write_all(STDOUT_FILENO, b"\n");
-    io::write_all(STDOUT_FILENO, &bytes);
-    io::write_all(STDOUT_FILENO, b"\n");
+    println!(rt; "{n}")?;
+    rt.write_all(&bytes)?;
+    println!(rt)
 }
 
 // The case that begins at a place.
-fn show_case(cases: &[u8], at: usize)
+fn show_case(rt: &impl Print, cases: &[u8], at: usize) -> io::Result<()>
     requires { at + 42 ≤ length cases.now }
 {
     let section = fields::u64_at(cases, at) as usize;
@@ -59,16 +68,29 @@ fn show_case(cases: &[u8], at: usize)
     let lowest = number(fields::u64_at(cases, at + 32));
     let lent = wide(cases[at + 40]);
     if lent <= 128 {
-        show(section, head, flow, highest, lowest, lent, cases[at + 41]);
+        show(
+            rt,
+            section,
+            head,
+            flow,
+            highest,
+            lowest,
+            lent,
+            cases[at + 41],
+        )?;
     }
+    Ok(())
 }
 
-fn main() {
-    let mut buffer = io::buffer();
-    let count = io::read_full(0, &mut buffer);
-    let mut at = 0;
-    while at + 42 <= count {
-        show_case(&buffer, at);
-        at += 42;
+// At most the 97 cases of the first 4,096 bytes are read. A read that fails counts as the end.
+fn main(rt: HostRuntime) -> io::Result<()> {
+    let mut input = rt.stdin();
+    let mut case = [0u8; 42];
+    for _ in 0..97 {
+        if input.read_exact(&mut case).is_err() {
+            break;
+        }
+        show_case(&rt, &case, 0)?;
     }
+    Ok(())
 }
