@@ -78,7 +78,7 @@ module _ (c : tie.After-fault_one invariant-loop decreases-loop) where
       let begun = start here.before in
       let s = begun.args.s in
       let i = here.loop-i.i in
-      let inv = here.loop-i.inv in
+      let inv = here.loop-i.invariant in
       counting_more _ inv.0 (omega arith) (adds begun.args.floors.now (pipe begun) s i (first_cp (pipe begun) s i inv.1) c.fault_one.ensures.1)
 
 returns : tie.Need-returns-then-i-heads invariant-loop decreases-loop

@@ -89,7 +89,7 @@ loop-again c =
     let s = begun.args.s in
     let floors = begun.args.floors.now in
     let i = here.loop-i.i in
-    let inv = here.loop-i.inv in
+    let inv = here.loop-i.invariant in
     let floored = in_floors begun.requires.1 in (
       two_cleared (sound_inner floors w s) here.loop-i.odd here.loop-i.even _ _ _ _ inv.0 (omega arith)
           (looked floors w s usual i (floored _ (omega arith)).1 (first_cp w s i inv.1) below.before.cm_at-cm1.ensures first.clear_one-odd.ensures.1)
@@ -116,7 +116,7 @@ module _ (c : tie.After-fault_one-last invariant-loop decreases-loop) where
   counted_one =
       let s = begun.args.s in
       let i = here.loop-i.i in
-      let inv = here.loop-i.inv in
+      let inv = here.loop-i.invariant in
       rw zero-add at
       (counting_more _ (clearing_done _ inv.0 c.before.if-finite-odd.false) (omega arith) (adds _ (pipe begun) s i (first_cp (pipe begun) s i inv.1) c.fault_one-last.ensures.1))
 
@@ -155,7 +155,7 @@ quick_spec =
     (λ c. omega (arith, (turn c).before.loop-i.invariant.0.few, c.clear_one-odd.ensures.0))
     (λ c. omega arith)
     clear-one-requires-2
-    (λ c. omega (arith, (turn c.before.before).before.loop-i.inv.0.few, c.clear_one-even.ensures.0))
+    (λ c. omega (arith, (turn c.before.before).before.loop-i.invariant.0.few, c.clear_one-even.ensures.0))
     (λ c. omega arith)
     two-cp-requires-2
     add-i

@@ -53,7 +53,7 @@ loop-again c =
     let turn : tie.In-loop-i invariant-loop decreases-loop = (writes c).before.before.before.before.before in
     let here = turn.before in
     let a = (start here.before).args in
-    let inv = here.loop-i.inv in (
+    let inv = here.loop-i.invariant in (
       two_more a.friction.now a.s inv.0 inv.1 wrote.1,
       next_cp a.friction.now a.s inv.0 wrote.0,
       omega (arith, turn.loop-i-test, heads_length inv.0),
@@ -74,8 +74,8 @@ commit_twos_spec =
     (λ c. (stepped_none, c.two_cp-cp.ensures, omega arith))
     (λ c. omega (arith, heads_length c.loop-i.invariant.0))
     write-two-requires
-    (λ c. omega (arith, heads_length (at-loop (writes c)).loop-i.inv.0))
-    (λ c. omega (arith, heads_length (at-loop (writes c)).loop-i.inv.0))
+    (λ c. omega (arith, heads_length (at-loop (writes c)).loop-i.invariant.0))
+    (λ c. omega (arith, heads_length (at-loop (writes c)).loop-i.invariant.0))
     loop-again
     (λ c. heads_length c.before.loop-i.invariant.0)
     (λ c. flows_length c.before.loop-i.invariant.0)

@@ -78,7 +78,7 @@ solved c =
 loop-again : tie.Need-loop-node-preserved invariant-loop decreases-loop
 loop-again c =
     let turn = solved-in c in
-    let inv = turn.before.loop-node.inv in (
+    let inv = turn.before.loop-node.invariant in (
       upto_step inv.0 turn.loop-node-test.taken (omega arith) (solved c).0,
       upto_step inv.1 turn.loop-node-test.taken (omega arith) (solved c).1,
     )

@@ -55,7 +55,7 @@ loop-again c =
     let counted : tie.After-schedule_count-count invariant-loop decreases-loop = c.before in
     let turn : tie.In-loop-node invariant-loop decreases-loop = turn-of c in
     let from : tie.After-counts-counts invariant-loop decreases-loop = tables turn in
-    let inv = turn.before.loop-node.inv in (
+    let inv = turn.before.loop-node.invariant in (
       sum_before_more _ _ inv.0 counted.schedule_count-count.ensures.0 counted.schedule_count-count.ensures.1,
       upto_step inv.1 turn.loop-node-test.taken (omega arith)
           (scheduled_is _ _ _ from.before.before.nodes-nodes.ensures from.counts-counts.ensures from.before.schedules-schedules.ensures turn.loop-node-test.taken

@@ -74,9 +74,9 @@ loop-again c =
     let begun = start (counted at).before in
     let a = begun.args in (
       omega (arith, at.loop-i-test.taken),
-      simp length-set at.before.loop-i.inv.1,
+      simp length-set at.before.loop-i.invariant.1,
       record_taken _ begun.requires.0.0 _ a.speeds.now a.inflows.now _ (here at) (counted at).before.trips-trips.ensures read.node_of-node.ensures (speed_there read) (inflow_there read)
-          at.before.loop-i.inv.2 c.value_by.ensures,
+          at.before.loop-i.invariant.2 c.value_by.ensures,
     )
 
 -- It stands after what a turn leaves, so that of another record the prover tells that first.

@@ -77,7 +77,7 @@ abbrev read_of : tie.After-end_faults-ends invariant-loop decreases-loop → tie
 read_of c = c.before.before.before
 
 add-bad : tie.Need-overflow_add-bad invariant-loop decreases-loop
-add-bad c = let read = read_of c in omega (arith, few c, (next read).low, read.before.before.before.loop-at.inv.2)
+add-bad c = let read = read_of c in omega (arith, few c, (next read).low, read.before.before.before.loop-at.invariant.2)
 
 loop-again : tie.Need-loop-at-preserved invariant-loop decreases-loop
 loop-again c =
@@ -88,7 +88,7 @@ loop-again c =
     let job = args.job.now in
     let heads = args.heads.now in
     let flows = args.flows.now in
-    let inv = loop.loop-at.inv in
+    let inv = loop.loop-at.invariant in
     let l = laid_of read.pipe_at.result in
     let some = (next read).here.joined.has_reach in
     rw c.past-at.ensures (

@@ -87,7 +87,7 @@ stop :
 stop c nodes e stays =
     let loop = (loop-of c).loop-at in
     let ahead = next c.before in
-    first_found _ loop.at.section (c.before.pipe_at.result.reaches + 1) (loop.inv.2 nodes e) (found c nodes e) _ (omega (arith, ahead.here.sections_in, ahead.first_is)) stays
+    first_found _ loop.at.section (c.before.pipe_at.result.reaches + 1) (loop.invariant.2 nodes e) (found c nodes e) _ (omega (arith, ahead.here.sections_in, ahead.first_is)) stays
 
 returns : tie.Need-returns-in-NotFinite invariant-loop decreases-loop
 unfolding found_fault earlier first_fault
@@ -108,7 +108,7 @@ loop-again c =
     rw c.past-at.ensures (
       search rules,
       (next searched.before).walked,
-      λ nodes e. ap (first_below earlier none _) more ∙ first_after _ loop.at.section (n + 1) (loop.inv.2 nodes e) (found searched nodes e) ∙ ap found_fault told.in-Sound.is,
+      λ nodes e. ap (first_below earlier none _) more ∙ first_after _ loop.at.section (n + 1) (loop.invariant.2 nodes e) (found searched nodes e) ∙ ap found_fault told.in-Sound.is,
     )
 
 returns-3 : tie.Need-returns invariant-loop decreases-loop

@@ -80,7 +80,7 @@ loop-again c =
     let read = read_of done in
     let loop : tie.At-loop-at invariant-loop decreases-loop = read.before.before.before in
     let args = (entry loop).args in
-    let inv = loop.loop-at.inv in
+    let inv = loop.loop-at.invariant in
     let kept = done.commit_pipe.kept.1.1.1.1 in
     rw c.past-at.ensures (
       search rules,

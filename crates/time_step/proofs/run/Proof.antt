@@ -41,7 +41,7 @@ as_counted i e underway = rw e underway
 loop-again : tie.Need-loop-i-preserved invariant-loop decreases-loop
 loop-again c =
     let v = stepped c.before in
-    let inv = (turn v).before.loop-i.inv in
+    let inv = (turn v).before.loop-i.invariant in
     let kept = v.one_step-ended.kept.1.1.1.1 in (
       as_counted (turn v).before.loop-i.i (omega arith)
           (way_next _ _ _ _ inv.0 v.one_step-ended.ensures (turn v).loop-i-test.taken kept.1.1.1 (sym c.before.stops.ensures ∙ c.if-stops.false)),
@@ -62,30 +62,30 @@ one-step-requires c κs =
 
 -- the rows that a stop leaves are as long as they were; longer paths than `search` follows
 same-heads : tie.Need-shape_of-heads-then-stops invariant-loop decreases-loop
-same-heads c = let v = stepped c.before in v.one_step-ended.kept.1.1.1.1.1.1.1.0 ∙ (turn v).before.loop-i.inv.0.sizes.0
+same-heads c = let v = stepped c.before in v.one_step-ended.kept.1.1.1.1.1.1.1.0 ∙ (turn v).before.loop-i.invariant.0.sizes.0
 
 same-flows : tie.Need-shape_of-flows-then-stops invariant-loop decreases-loop
-same-flows c = let v = stepped c.before in v.one_step-ended.kept.1.1.1.1.1.1.1.1.0 ∙ (turn v).before.loop-i.inv.0.sizes.1.0
+same-flows c = let v = stepped c.before in v.one_step-ended.kept.1.1.1.1.1.1.1.1.0 ∙ (turn v).before.loop-i.invariant.0.sizes.1.0
 
 same-highest : tie.Need-shape_of-highest-then-stops invariant-loop decreases-loop
-same-highest c = let v = stepped c.before in v.one_step-ended.kept.1.1.1.1.1.1.1.1.1.0 ∙ (turn v).before.loop-i.inv.0.sizes.1.1.0
+same-highest c = let v = stepped c.before in v.one_step-ended.kept.1.1.1.1.1.1.1.1.1.0 ∙ (turn v).before.loop-i.invariant.0.sizes.1.1.0
 
 same-lowest : tie.Need-shape_of-lowest-then-stops invariant-loop decreases-loop
-same-lowest c = let v = stepped c.before in v.one_step-ended.kept.1.1.1.1.1.1.1.1.1.1.0 ∙ (turn v).before.loop-i.inv.0.sizes.1.1.1.0
+same-lowest c = let v = stepped c.before in v.one_step-ended.kept.1.1.1.1.1.1.1.1.1.1.0 ∙ (turn v).before.loop-i.invariant.0.sizes.1.1.1.0
 
 same-speeds : tie.Need-shape_of-speeds-then-stops invariant-loop decreases-loop
-same-speeds c = let v = stepped c.before in v.one_step-ended.kept.1.1.1.1.1.1.1.1.1.1.1.0 ∙ (turn v).before.loop-i.inv.0.sizes.1.1.1.1.0
+same-speeds c = let v = stepped c.before in v.one_step-ended.kept.1.1.1.1.1.1.1.1.1.1.1.0 ∙ (turn v).before.loop-i.invariant.0.sizes.1.1.1.1.0
 
 same-inflows : tie.Need-shape_of-inflows-then-stops invariant-loop decreases-loop
-same-inflows c = let v = stepped c.before in v.one_step-ended.kept.1.1.1.1.1.1.1.1.1.1.1.1.0 ∙ (turn v).before.loop-i.inv.0.sizes.1.1.1.1.1.0
+same-inflows c = let v = stepped c.before in v.one_step-ended.kept.1.1.1.1.1.1.1.1.1.1.1.1.0 ∙ (turn v).before.loop-i.invariant.0.sizes.1.1.1.1.1.0
 
 same-spare : tie.Need-shape_of-spare-then-stops invariant-loop decreases-loop
-same-spare c = let v = stepped c.before in v.one_step-ended.kept.1.1.1.1.1.1.1.1.1.1.1.1.1.0 ∙ (turn v).before.loop-i.inv.0.sizes.1.1.1.1.1.1.0
+same-spare c = let v = stepped c.before in v.one_step-ended.kept.1.1.1.1.1.1.1.1.1.1.1.1.1.0 ∙ (turn v).before.loop-i.invariant.0.sizes.1.1.1.1.1.1.0
 
 returns : tie.Need-returns-then-stops invariant-loop decreases-loop
 returns c =
     let v = stepped c.before in
-    way_stop _ _ _ _ (turn v).before.loop-i.inv.0 v.one_step-ended.ensures (turn v).loop-i-test.taken (sym c.before.stops.ensures ∙ c.if-stops.true)
+    way_stop _ _ _ _ (turn v).before.loop-i.invariant.0 v.one_step-ended.ensures (turn v).loop-i-test.taken (sym c.before.stops.ensures ∙ c.if-stops.true)
 
 returns-2 : tie.Need-returns invariant-loop decreases-loop
 returns-2 c = way_done _ _ _ _ c.before.loop-i.invariant.0 c.loop-i-test.false
