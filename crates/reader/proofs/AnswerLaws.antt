@@ -27,6 +27,8 @@ module _ (job : List ℕ) where
   unfolding read_answer
   accepted_is s m = go (eqb (refusal job) 0) refl
     where
-      go : (z : Bool) → eqb (refusal job) 0 ≡ z → accepted s m ≡ cond z held (refused (refusal job)) → (Accepted job) × (s ≡ sections (job_of job)) × (m ≡ listing_steps job)
+      go :
+          (z : Bool) → eqb (refusal job) 0 ≡ z → accepted s m ≡ cond z held (refused (refusal job))
+          → (Accepted job) × (s ≡ sections (job_of job)) × (m ≡ listing_steps job)
       go true e a = (eqb-true _ _ e, cc, cc)
       go false e a = let z : ◌≡◌ {A = ℕ} 0 1 = cc in absurd (omega arith)

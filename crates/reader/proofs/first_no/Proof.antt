@@ -1,4 +1,5 @@
--- `reader::first_no` meets its contract: the first part of the table of questions that has a no decides, and a part without one leaves it to the parts after it. Assumes nothing.
+-- `reader::first_no` meets its contract: the first part of the table of questions that has a no decides, and a part without one leaves it to the parts after
+-- it. Assumes nothing.
 use mathlib.Core.Path.{sym, ◌∙◌}
 use Rattle.job.proofs.FirstNo.{refusal_is, decides, goes_on}
 use borrow.Author.Rules.{rules}
@@ -8,7 +9,9 @@ use Rattle.reader.proofs.first_no.Tie as tie
 returns-2 : tie.Need-returns-then-of_pipes-ne0
 returns-2 c =
     let pairs : tie.Else-of_pairs-ne0 = c.before.before in
-    decides _ c.before.first_no-of_pipes.ensures c.if-of_pipes-ne0.true ∙ goes_on pairs.before.first_no-of_pairs.ensures pairs.if-of_pairs-ne0.false ∙ sym (refusal_is _)
+    decides _ c.before.first_no-of_pipes.ensures c.if-of_pipes-ne0.true
+    ∙ goes_on pairs.before.first_no-of_pairs.ensures pairs.if-of_pairs-ne0.false
+    ∙ sym (refusal_is _)
 
 returns-3 : tie.Need-returns-then-of_nodes-ne0
 returns-3 c =

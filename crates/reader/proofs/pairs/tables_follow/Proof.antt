@@ -1,5 +1,5 @@
--- `reader::pairs::tables_follow` meets its contract: the invariant has where table k must begin, a turn stops at a table that begins elsewhere, and past the last
--- table the place is the file's end. Assumes nothing.
+-- `reader::pairs::tables_follow` meets its contract: the invariant has where table k must begin, a turn stops at a table that begins elsewhere, and past the
+-- last table the place is the file's end. Assumes nothing.
 use mathlib.Core.Path.{◌≡◌, refl}
 use mathlib.Core.Bool.{false}
 use Prim.Native.Nat.{◌-◌}
@@ -35,7 +35,8 @@ unfolding follows
 loop-again c =
     let read : tie.After-offset_of-offset invariant-loop decreases-loop = c.before.before in
     let here : tie.At-loop-k invariant-loop decreases-loop = read.before.before in (
-      passing_step _ here.loop-k.invariant.0 (omega arith) refl (rw (← read.offset_of-offset.ensures.0, ← here.loop-k.invariant.1, eq-eqb _ _ c.before.if-offset-begin.false)),
+      passing_step _ here.loop-k.invariant.0 (omega arith) refl
+          (rw (← read.offset_of-offset.ensures.0, ← here.loop-k.invariant.1, eq-eqb _ _ c.before.if-offset-begin.false)),
       rw (add-one, ← read.offset_of-offset.ensures.0, ← c.length_of.ensures.0),
       here.loop-k.invariant.2,
     )

@@ -1,4 +1,7 @@
--- `reader::pipes::constants_fit` meets its contract: a turn asks question 9 of one pipe and stops at the first no, so that those passed have a yes each. Assumes nothing.
+-- `reader::pipes::constants_fit` meets its contract: a turn asks question 9 of one pipe and stops at the first no, so that those passed have a yes each.
+-- Assumes nothing.
+use mathlib.Core.Path.{ap}
+use mathlib.Core.Bool.{not}
 use Prim.Native.Nat.{◌-◌}
 use native.Mathlib.Omega.{arith}
 use Rattle.loops.proofs.All.{Passing, passing_none, passing_step, passing_stop, passing_done}
@@ -23,8 +26,8 @@ constants_fit_spec =
     decreases-loop
     (λ c. passing_none _)
     (λ c κs. search rules)
-    (λ c. passing_stop _ c.before.before.loop-p-test.true c.before.constant_fits.ensures c.if-not-constant_fits.true)
+    (λ c. passing_stop _ c.before.before.loop-p-test.true c.before.constant_fits.ensures (ap not c.if-not-constant_fits.true))
     (λ c. search rules)
     (λ c. search rules)
-    (λ c. passing_step _ c.before.before.before.loop-p.invariant (omega arith) c.before.constant_fits.ensures c.if-not-constant_fits.false)
+    (λ c. passing_step _ c.before.before.before.loop-p.invariant (omega arith) c.before.constant_fits.ensures (ap not c.if-not-constant_fits.false))
     (λ c. passing_done _ c.before.loop-p.invariant c.loop-p-test.false))

@@ -1,4 +1,5 @@
--- `reader::pipes::first_no` meets its contract: questions 5 to 9 are answered of the tables that the file has, and the first no decides, as `firstNo` goes. Assumes nothing.
+-- `reader::pipes::first_no` meets its contract: questions 5 to 9 are answered of the tables that the file has, and the first no decides, as `first_no` goes.
+-- Assumes nothing.
 use mathlib.Core.Path.{refl}
 use Rattle.job.specs.Questions.{sections_fit, pipe_questions, first_no}
 use Rattle.job.proofs.TableBounds.{pairs_right, table_short}
