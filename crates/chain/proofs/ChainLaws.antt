@@ -1,12 +1,11 @@
--- The tests of a chain, of the tables that a job is read from: a kind is told by its number, each record is read at its own place, and of three tests the first no
--- decides. Assumes nothing.
+-- The tests of a chain, of the tables that a job is read from: a kind is told by its number, each record is read at its own place, and of three tests the first
+-- no decides. Assumes nothing.
 use mathlib.Core.Path.{◌≡◌, refl, sym, ap, ap₂, ◌∙◌}
 use mathlib.Core.Bool.{Bool, true, false, cond, ◌&&◌}
 use mathlib.Core.List.{List}
-use Prim.Native.Nat.{ℕ, zero, ◌+◌, ◌<◌}
+use Prim.Native.Nat.{ℕ, ◌+◌, ◌<◌}
 use native.Mathlib.Omega.{arith}
 use lib.Dec.{eqb}
-use lib.ListN.{length, get_or}
 use lib.Ieee.{Float, eq}
 use borrow.Author.Tests.{eq-eqb, eqb-true, ne_eqb}
 use Rattle.fields.specs.Real.{zero64}
@@ -15,7 +14,8 @@ use Rattle.loops.proofs.All.{all_at, all_cong}
 use Rattle.loops.proofs.Listed.{length-listed, get_or-listed}
 use Rattle.loops.proofs.Tests.{both, half_fails, half_holds}
 use Rattle.job.specs.Job.{junction, reservoir, valve, pump, ScheduledNode, node_at}
-use Rattle.job.specs.Format.{pipe_table, node_table, count_table, schedule_table, pipe_count, pipe_in, pipes_in, node_count, kind_number, a_of, b_of, c_of, kind_in, node_in, job_of}
+use Rattle.job.specs.Format.{pipe_table, node_table, count_table, schedule_table, pipe_count, pipe_in, pipes_in}
+use Rattle.job.specs.Format.{node_count, kind_number, a_of, b_of, c_of, kind_in, node_in, job_of}
 use Rattle.job.specs.Questions.{Accepted}
 use Rattle.job.proofs.Accepted.{pipes_length, nodes_length, pipe_limits}
 use Rattle.job.proofs.NodeLaws.{node_is}
@@ -64,7 +64,9 @@ module _ (nodes : List ℕ) (node : ℕ) where
   unfolding is_valve kind_in
   valve_is = go (eqb k 0) (eqb k 1) (eqb k 2) (not_both k (λ e. omega arith)) (not_both k (λ e. omega arith))
     where
-      go : (x y z : Bool) → (x ≡ true → z ≡ false) → (y ≡ true → z ≡ false) → z ≡ is_valve (cond x junction (cond y reservoir (cond z (valve a b) (pump a b c))))
+      go :
+          (x y z : Bool) → (x ≡ true → z ≡ false) → (y ≡ true → z ≡ false)
+          → z ≡ is_valve (cond x junction (cond y reservoir (cond z (valve a b) (pump a b c))))
       go true y z h i = h refl
       go false true z h i = i refl
       go false false true h i = refl
@@ -128,8 +130,15 @@ module _ (job : List ℕ) (ok : Accepted job) where
       go false e = refl
       go true e =
           let n : node_count (node_table job) ≡ last + 1 = eqb-true _ _ e in
-          ap₂ ◌&&◌ (all_cong last (λ i. pipe_fits i (pipe_at (job_of job) i)) (λ p. pipe_fits p (pipe_in (pipe_table job) p)) (λ i l. ap (pipe_fits i) (pipe_is i l)))
-          (rw n (all_cong (last + 1) (λ i. node_fits last i (node_at (job_of job) i)) (λ i. node_fits last i (node_of i)) (λ i l. ap (node_fits last i) (node_is job i (rw n l)))))
+          ap₂ ◌&&◌ (
+          all_cong last (λ i. pipe_fits i (pipe_at (job_of job) i)) (λ p. pipe_fits p (pipe_in (pipe_table job) p))
+          (λ i l. ap (pipe_fits i) (pipe_is i l))
+          ) (
+          rw n (
+          all_cong (last + 1) (λ i. node_fits last i (node_at (job_of job) i)) (λ i. node_fits last i (node_of i))
+          (λ i l. ap (node_fits last i) (node_is job i (rw n l)))
+          )
+          )
 
   abbrev counted : Bool
   counted = eqb (node_count (node_table job)) (last + 1)

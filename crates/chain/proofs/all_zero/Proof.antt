@@ -1,4 +1,5 @@
 -- `chain::all_zero` meets its contract: a turn reads one entry and stops at the first that is not zero. Assumes nothing.
+use mathlib.Core.Bool.{not}
 use mathlib.Core.Path.{◌≡◌, ap, ◌∙◌}
 use Prim.Native.Nat.{◌+◌, ◌-◌}
 use native.Mathlib.Omega.{arith}
@@ -30,7 +31,7 @@ asked c = ap (λ v. eq v zero64) c.f64_at-zero.ensures
 
 f64-at-requires : tie.Need-f64_at-zero-requires invariant-loop decreases-loop
 unfolding finite_at
-f64-at-requires c κs = let s = start c.before in (omega (arith, s.pre.0), all_at _ _ s.args.count s.pre.1 c.loop-i-test.true)
+f64-at-requires c κs = let s = start c.before in (omega (arith, s.requires.0), all_at _ _ s.args.count s.requires.1 c.loop-i-test.true)
 
 pub all_zero_spec : {M : Type 1} → statement M
 all_zero_spec =
@@ -42,8 +43,8 @@ all_zero_spec =
     (λ c. search rules)
     (λ c. search rules)
     f64-at-requires
-    (λ c. passing_stop _ c.before.before.loop-i-test.true (asked c.before) c.if-not-zero.true ∙ zero_each _ _)
+    (λ c. passing_stop _ c.before.before.loop-i-test.true (asked c.before) (ap not c.if-not-zero.true) ∙ zero_each _ _)
     (λ c. search rules)
     (λ c. search rules)
-    (λ c. passing_step _ c.before.before.before.loop-i.invariant (omega arith) (asked c.before) c.if-not-zero.false)
+    (λ c. passing_step _ c.before.before.before.loop-i.invariant (omega arith) (asked c.before) (ap not c.if-not-zero.false))
     (λ c. passing_done _ c.before.loop-i.invariant c.loop-i-test.false ∙ zero_each _ _))

@@ -1,5 +1,6 @@
 -- `chain::is_chain` meets its contract: the tables handed out are the job's, and of the three tests the first no decides. Assumes nothing.
-use mathlib.Core.Path.{◌≡◌, ◌∙◌}
+use mathlib.Core.Bool.{not}
+use mathlib.Core.Path.{◌≡◌, ◌∙◌, ap}
 use Prim.Native.Nat.{ℕ, ◌+◌}
 use borrow.Author.Rules.{rules}
 use native.Mathlib.Omega.{arith}
@@ -42,7 +43,7 @@ returns c =
 returns-2 : tie.Need-returns-then-not-pipes_fit
 returns-2 c =
     let asked : tie.After-pipes_fit = c.before in
-    pipe_no _ (start asked.before.before).requires (node_more asked.before) (is_no (pipes_asked asked) c.if-not-pipes_fit.true)
+    pipe_no _ (start asked.before.before).requires (node_more asked.before) (is_no (pipes_asked asked) (ap not c.if-not-pipes_fit.true))
 
 nodes-fit-requires : tie.Need-nodes_fit-requires
 nodes-fit-requires c κs =
@@ -59,8 +60,13 @@ returns-3 c =
     let asked : tie.After-pipes_fit = passed.before in
     let tables : tie.After-schedules-schedules = asked.before.before in
     let nodes : tie.After-nodes-nodes = tables.before.before in
-    (rw (nodes.before.pipes-pipes.ensures, nodes.nodes-nodes.ensures, tables.before.counts-counts.ensures, tables.schedules-schedules.ensures) at c.nodes_fit.ensures)
-    ∙ by_nodes _ (start tables).requires (node_more asked.before) (is_yes (pipes_asked asked) passed.if-not-pipes_fit.false)
+    (rw (
+      nodes.before.pipes-pipes.ensures,
+      nodes.nodes-nodes.ensures,
+      tables.before.counts-counts.ensures,
+      tables.schedules-schedules.ensures,
+    ) at c.nodes_fit.ensures)
+    ∙ by_nodes _ (start tables).requires (node_more asked.before) (is_yes (pipes_asked asked) (ap not passed.if-not-pipes_fit.false))
 
 pub is_chain_spec : {M : Type 1} → statement M
 is_chain_spec =

@@ -1,6 +1,7 @@
--- `chain::nodes_fit` meets its contract: a turn asks one node and stops at the first no. The place carried is the sum of the counts before the node, so that the
--- entries asked are its own. Assumes nothing.
-use mathlib.Core.Path.{◌≡◌}
+-- `chain::nodes_fit` meets its contract: a turn asks one node and stops at the first no. The place carried is the sum of the counts before the node, so that
+-- the entries asked are its own. Assumes nothing.
+use mathlib.Core.Bool.{not}
+use mathlib.Core.Path.{◌≡◌, ap}
 use Prim.Native.Nat.{◌-◌}
 use native.Mathlib.Omega.{arith}
 use borrow.Author.Rules.{rules}
@@ -40,13 +41,13 @@ loop-again c =
     let count = fits.before.schedule_count-count.ensures in
     let inv = (turn fits).before.loop-node.invariant in (
       sum_before_more _ _ inv.0 count.0 count.1,
-      passing_step _ inv.1 (omega arith) (asked fits) c.if-not-node_fits.false,
+      passing_step _ inv.1 (omega arith) (asked fits) (ap not c.if-not-node_fits.false),
     )
 
 node-fits-requires : tie.Need-node_fits-requires invariant-loop decreases-loop
 node-fits-requires c κs =
     let here : tie.In-loop-node invariant-loop decreases-loop = c.before in
-    let right = (start here.before).pre.0.entries in
+    let right = (start here.before).requires.0.entries in
     let sum = here.before.loop-node.invariant.0.sum in (
       here.loop-node-test.true,
       entries_within _ _ _ right here.loop-node-test.true sum c.schedule_count-count.ensures.0,
@@ -60,9 +61,9 @@ nodes_fit_spec =
     invariant-loop
     decreases-loop
     (λ c. (sum_before_none _ _, passing_none _))
-    (λ c κs. (c.loop-node-test.true, (start c.before).pre.0.counted))
+    (λ c κs. (c.loop-node-test.true, (start c.before).requires.0.counted))
     node-fits-requires
-    (λ c. passing_stop _ (turn c.before).loop-node-test.taken (asked c.before) c.if-not-node_fits.true)
+    (λ c. passing_stop _ (turn c.before).loop-node-test.true (asked c.before) (ap not c.if-not-node_fits.true))
     (λ c. search rules)
     (λ c. search rules)
     (λ c. search rules)

@@ -1,4 +1,6 @@
 -- `chain::pipes_fit` meets its contract: a turn asks one pipe and stops at the first no. Assumes nothing.
+use mathlib.Core.Path.{ap}
+use mathlib.Core.Bool.{not}
 use Prim.Native.Nat.{◌-◌}
 use native.Mathlib.Omega.{arith}
 use borrow.Author.Rules.{rules}
@@ -22,8 +24,8 @@ pipes_fit_spec =
     decreases-loop
     (λ c. passing_none _)
     (λ c κs. search rules)
-    (λ c. passing_stop _ c.before.before.loop-p-test.true c.before.pipe_fits.ensures c.if-not-pipe_fits.true)
+    (λ c. passing_stop _ c.before.before.loop-p-test.true c.before.pipe_fits.ensures (ap not c.if-not-pipe_fits.true))
     (λ c. search rules)
     (λ c. search rules)
-    (λ c. passing_step _ c.before.before.before.loop-p.invariant (omega arith) c.before.pipe_fits.ensures c.if-not-pipe_fits.false)
+    (λ c. passing_step _ c.before.before.before.loop-p.invariant (omega arith) c.before.pipe_fits.ensures (ap not c.if-not-pipe_fits.false))
     (λ c. passing_done _ c.before.loop-p.invariant c.loop-p-test.false))
