@@ -37,10 +37,10 @@ pipe-at-requires c κs = ((start c.before.before).requires, here c, c.before.bef
 
 -- the pipe at hand, and the walk past it
 next : (c : tie.After-pipe_at-l invariant-loop decreases-loop)
-    → let loop : tie.At-loop-at invariant-loop decreases-loop = c.before.before.before in Onward (start loop).args.job.now (start loop).requires loop.loop-at.at c.pipe_at.result
+    → let loop : tie.At-loop-at invariant-loop decreases-loop = c.before.before.before in Onward (start loop).args.job.now (start loop).requires loop.loop-at.at c.pipe_at-l.result
 next c =
     let loop : tie.At-loop-at invariant-loop decreases-loop = c.before.before.before in
-    onward _ (start loop).requires _ _ loop.loop-at.invariant.1 c.pipe_at.ensures
+    onward _ (start loop).requires _ _ loop.loop-at.invariant.1 c.pipe_at-l.ensures
 
 past-requires : tie.Need-past-at-requires invariant-loop decreases-loop
 past-requires c κs = omega (arith, (next c.before.before.before.before).low)
@@ -54,7 +54,7 @@ loop-again c =
     rw c.past-at.ensures (
       search rules,
       (next read).walked,
-      sums_more only_t _ _ _ (start loop).requires loop.loop-at.at.pipe with_s t_adds _ (laid_of read.pipe_at.result) read.pipe_at.ensures loop.loop-at.invariant.2
+      sums_more only_t _ _ _ (start loop).requires loop.loop-at.at.pipe with_s t_adds _ (laid_of read.pipe_at-l.result) read.pipe_at-l.ensures loop.loop-at.invariant.2
           first.with_s.ensures second.with_s-in-loop-at.ensures refl refl,
     )
 
