@@ -8,7 +8,7 @@ use native.Mathlib.Omega.{arith}
 use borrow.Author.Tests.{ltb-false, lt-ltb, le-ltb}
 use lib.IntN.{ℤ, pos}
 use lib.Dec.{T, ltb, eqb-suc-zero}
-use lib.Ieee.{Float, nan, inf, fin, Format, binary64, up, down, round, neg, sum, sub, mul, div, lt, fits, of_bits, below}
+use lib.Ieee.{Float, nan, inf, fin, Format, binary64, up, down, round, sum, sub, mul, div, lt, fits, of_bits, below}
 use lib.Ieee.Fits.{up_pos, down_pos, neg-fits}
 use lib.Ieee.Scale.{finite, round_same}
 use lib.Ieee.Positive.{through}

@@ -14,7 +14,6 @@ use Rattle.loops.specs.Loops.{all_below}
 use Rattle.loops.proofs.All.{all_at}
 use Rattle.loops.proofs.Tests.{both}
 use Rattle.loops.proofs.Listed.{length-listed, at_listed}
-use Rattle.job.specs.Job.{Trip}
 use Rattle.job.specs.Format.{node_table, trip_table, node_count, kind_number, trip_count, trip_in, trips_in, job_of}
 use Rattle.job.specs.Questions.{finite_not_below_zero, is_pump, first_of_node, rundown_fits, trip_fits, trips_fit, Accepted}
 use Rattle.job.proofs.Accepted.{tables_right}

@@ -10,7 +10,6 @@ use Rattle.whole_root.specs.Digits.{LeavesRest, FirstDigits}
 use Rattle.whole_root.proofs.later_digits.Statement.{statement}
 use Rattle.whole_root.proofs.later_digits.Tie as tie
 
-
 -- half of a power of two above 1
 record Halved (unit : ℕ) : Type 0 where
   power : ℕ
