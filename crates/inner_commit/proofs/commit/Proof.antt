@@ -42,26 +42,26 @@ two c =
 -- ---- what is stored at each
 
 abbrev pipe : tie.Start → AlongPipes
-pipe c = let a = c.args in one_pipe a.friction.now a.heads-1.now a.flows-1.now
+pipe c = let a = c.args in one_pipe a.friction.now a.heads.now a.flows.now
 
 -- the rows after n sections
 abbrev Stored : tie.Start → ℕ → List Float → List Float → List Float → List Float → Type 0
 Stored c n heads flows highest lowest =
     let a = c.args in
-    SteppedTo (inner_at (pipe c) a.s) 1 n a.heads-1.now a.flows-1.now a.highest-1.now a.lowest-1.now heads flows highest lowest
+    SteppedTo (inner_at (pipe c) a.s) 1 n a.heads.now a.flows.now a.highest.now a.lowest.now heads flows highest lowest
 
 module _ (c : tie.After-commit_twos-carried) where
   abbrev count : ℕ
   count = c.commit_twos-carried.result.done
 
-  after_turns : let left = c.commit_twos-carried.new.1.1 in Stored (start c) count left.0 left.1.0 left.1.1.0 left.1.1.1.0
+  after_turns : let left = c.commit_twos-carried.new in Stored (start c) count left.heads left.flows left.highest left.lowest
   after_turns = record { stepped = c.commit_twos-carried.ensures.3 }
 
 after_one :
     (c : tie.After-write_one)
-    → let left = c.write_one.new.1.1.1.1 in
+    → let left = c.write_one.new in
     let done = turns c.before in
-    Stored (start done) (count done + 1) left.0 left.1.0 left.1.1.0 left.1.1.1.0
+    Stored (start done) (count done + 1) left.heads left.flows left.highest left.lowest
 after_one c =
     let done = turns c.before in
     let a = (start done).args in
@@ -69,15 +69,15 @@ after_one c =
 
 after_two :
     (c : tie.After-write_one-2)
-    → let left = c.write_one-2.new.1.1.1.1 in
+    → let left = c.write_one-2.new in
     let done = turns (one (before-two c).before).before in
-    Stored (start done) (count done + 1 + 1) left.0 left.1.0 left.1.1.0 left.1.1.1.0
+    Stored (start done) (count done + 1 + 1) left.heads left.flows left.highest left.lowest
 after_two c =
     let first = one (before-two c).before in
     let done = turns first.before in
     let a = (start done).args in
-    let left = c.write_one-2.new.1.1.1.1 in
-    one_more a.friction.now a.s (after_one first) {newHeads = left.0} {newFlows = left.1.0} {newHighest = left.1.1.0} {newLowest = left.1.1.1.0}
+    let left = c.write_one-2.new in
+    one_more a.friction.now a.s (after_one first) {newHeads = left.heads} {newFlows = left.flows} {newHighest = left.highest} {newLowest = left.lowest}
     (second_cp (pipe (start done)) a.s (count done) done.commit_twos-carried.ensures.2) c.write_one-2.ensures
 
 -- ---- the needs
@@ -86,7 +86,7 @@ returns : tie.Need-returns-then-heads-lt3
 returns c =
     let begun : tie.Start = c.before.before.before.before.before.before in
     let a = begun.args in
-    let none : Stored begun 0 a.heads-1.now a.flows-1.now a.highest-1.now a.lowest-1.now = stepped_none in
+    let none : Stored begun 0 a.heads.now a.flows.now a.highest.now a.lowest.now = stepped_none in
     stepped_done none _ (omega arith)
 
 write-one-requires : tie.Need-write_one-requires
@@ -119,7 +119,7 @@ returns-3 c =
     let next = before-two (two c) in
     let u = after_two (two c) in
     let bounds = (turns (one next.before).before).commit_twos-carried.ensures in
-    stepped_done u _ (omega (arith, next.if-end-heads.left, heads_length u, bounds.0, bounds.1))
+    stepped_done u _ (omega (arith, next.if-end-heads.false, heads_length u, bounds.0, bounds.1))
 
 pub commit_spec : {M : Type 1} → statement M
 commit_spec =

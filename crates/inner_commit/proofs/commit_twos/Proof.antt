@@ -19,49 +19,30 @@ invariant-loop friction s heads₀ flows₀ highest₀ lowest₀ cp₀ i₀ head
 abbrev decreases-loop : tie.decreases-loop-i
 decreases-loop friction s heads₀ flows₀ highest₀ lowest₀ cp₀ i₀ heads flows highest lowest cp i = length heads₀ - i
 
-abbrev start : tie.After-two_cp-cp invariant-loop decreases-loop → tie.Start invariant-loop decreases-loop
-start c =
-    let lent : tie.After-slice_known-4-1 invariant-loop decreases-loop = c.before.before.before in
-    lent.before.before.before.before.before
-
 two-cp-requires : tie.Need-two_cp-cp-requires invariant-loop decreases-loop
-two-cp-requires c κs =
-    let lent : tie.After-slice_known-4-1 invariant-loop decreases-loop = c.before.before in
-    (lent.before.before.before.before.before.requires.0.0, omega arith)
+two-cp-requires c κs = (c.requires.0.0, omega arith)
 
 write-two-requires : tie.Need-write_two-cp-requires invariant-loop decreases-loop
 write-two-requires c κs =
-    let here : tie.At-loop-i invariant-loop decreases-loop = c.before.before.before.before.before in
-    let pre = (start here.before).requires in
-    let u = here.loop-i.invariant.0 in (
+    let pre = c.requires in
+    let u = c.loop-i.invariant.0 in (
       (still_cut pre.0.0 (heads_length u) (flows_length u), omega (arith, heads_length u)),
       (omega (arith, heads_length u, highest_length u), omega (arith, heads_length u, lowest_length u)),
     )
 
--- the turn, and what is written in it
-abbrev writes : tie.After-slice_known-in-loop-i-4-1 invariant-loop decreases-loop → tie.After-write_two-cp invariant-loop decreases-loop
-writes c =
-    let back : tie.After-slice_known-in-loop-i-2-1 invariant-loop decreases-loop = c.before.before.before.before in
-    back.before.before.before.before
-
-abbrev at-loop : tie.After-write_two-cp invariant-loop decreases-loop → tie.At-loop-i invariant-loop decreases-loop
-at-loop c = c.before.before.before.before.before.before
-
 loop-again : tie.Need-loop-i-preserved invariant-loop decreases-loop
 loop-again c =
-    let wrote = (writes c).write_two-cp.ensures in
-    let turn : tie.In-loop-i invariant-loop decreases-loop = (writes c).before.before.before.before.before in
-    let here = turn.before in
-    let a = (start here.before).args in
-    let inv = here.loop-i.invariant in (
+    let wrote = c.write_two-cp.ensures in
+    let a = c.args in
+    let inv = c.loop-i.invariant in (
       two_more a.friction.now a.s inv.0 inv.1 wrote.1,
       next_cp a.friction.now a.s inv.0 wrote.0,
-      omega (arith, turn.loop-i-test, heads_length inv.0),
+      omega (arith, c.loop-i-test, heads_length inv.0),
     )
 
 returns : tie.Need-returns invariant-loop decreases-loop
 returns c =
-    let inv = c.before.loop-i.invariant in
+    let inv = c.loop-i.invariant in
     (inv.2, omega (arith, heads_length inv.0), inv.1, inv.0.stepped)
 
 pub commit_twos_spec : {M : Type 1} → statement M
@@ -74,11 +55,11 @@ commit_twos_spec =
     (λ c. (stepped_none, c.two_cp-cp.ensures, omega arith))
     (λ c. omega (arith, heads_length c.loop-i.invariant.0))
     write-two-requires
-    (λ c. omega (arith, heads_length (at-loop (writes c)).loop-i.invariant.0))
-    (λ c. omega (arith, heads_length (at-loop (writes c)).loop-i.invariant.0))
+    (λ c. omega (arith, heads_length c.loop-i.invariant.0))
+    (λ c. omega (arith, heads_length c.loop-i.invariant.0))
     loop-again
-    (λ c. heads_length c.before.loop-i.invariant.0)
-    (λ c. flows_length c.before.loop-i.invariant.0)
-    (λ c. highest_length c.before.loop-i.invariant.0)
-    (λ c. lowest_length c.before.loop-i.invariant.0)
+    (λ c. heads_length c.loop-i.invariant.0)
+    (λ c. flows_length c.loop-i.invariant.0)
+    (λ c. highest_length c.loop-i.invariant.0)
+    (λ c. lowest_length c.loop-i.invariant.0)
     returns)

@@ -9,13 +9,8 @@ use Rattle.inner_commit.proofs.write_one.Tie as tie
 
 returns : tie.Need-returns
 returns c =
-    let back : tie.After-slice_known-6-1 = c.before.before.before.before in
-    let stored : tie.After-store = back.before.before.before.before in
-    let section : tie.After-by_cp-x = stored.before.before.before.before.before in
-    let lent : tie.After-slice_known-4-1 = section.before.before.before in
-    let start : tie.Start = lent.before.before.before.before.before in
-    let a = start.args in
-    stepped_as (a.i + 1) 1 a.heads-1.now a.flows-1.now a.highest-1.now a.lowest-1.now (ap {B = ℕ → HeadFlow} (λ x k. x) section.by_cp-x.ensures) stored.store.ensures
+    let a = c.args in
+    stepped_as (a.i + 1) 1 a.heads.now a.flows.now a.highest.now a.lowest.now (ap {B = ℕ → HeadFlow} (λ x k. x) c.by_cp-x.ensures) c.store.ensures
 
 pub write_one_spec : {M : Type 1} → statement M
 write_one_spec =
