@@ -4,57 +4,51 @@
 
 ghost use Rattle.std.specs.Prelude.{◌≤◌, ◌<◌, length};
 
-use libc::STDOUT_FILENO;
 use reader::Read;
+use std::io;
+use std::io::{Read as _, Stdin};
 
-fn show(answer: Read) {
+fn show(rt: &impl Print, answer: Read) -> io::Result<()> {
     match answer {
-        Read::Refused(n) => {
-            io::write_all(STDOUT_FILENO, b"refused ");
-            io::print_decimal(STDOUT_FILENO, n as u64);
-        }
-        Read::Accepted { sections, steps } => {
-            io::write_all(STDOUT_FILENO, b"accepted ");
-            io::print_decimal(STDOUT_FILENO, sections as u64);
-            io::write_all(STDOUT_FILENO, b" ");
-            io::print_decimal(STDOUT_FILENO, steps as u64);
-        }
+        Read::Refused(n) => println!(rt; "refused {n}"),
+        Read::Accepted { sections, steps } => println!(rt; "accepted {sections} {steps}"),
     }
-    io::write_all(STDOUT_FILENO, b"\n");
 }
 
 // Reads the length of the next job, or more than `most` where there is none.
-fn next_length(most: usize) -> usize
+fn next_length(input: &mut Stdin, most: usize) -> usize
     requires { most < 4294967296 }
 {
     let mut four = [0u8; 4];
-    let got = io::read_full(0, &mut four);
-    if got < 4 {
+    if input.read_exact(&mut four).is_err() {
         return most + 1;
     }
     fields::u32_at(&four, 0)
 }
 
 // Reads the next job into `space` and prints its answer; whether there was one.
-fn answered(space: &mut [u8]) -> bool
+fn answered(rt: &impl Print, input: &mut Stdin, space: &mut [u8]) -> io::Result<bool>
     requires { length space.old ≤ 65536 }
 {
-    let n = next_length(space.len());
+    let n = next_length(input, space.len());
     if n > space.len() {
-        return false;
+        return Ok(false);
     }
-    let got = io::read_full(0, &mut space[0..n]);
-    if got < n {
-        return false;
+    if input.read_exact(&mut space[0..n]).is_err() {
+        return Ok(false);
     }
-    show(reader::read(&space[0..n]));
-    true
+    show(rt, reader::read(&space[0..n]))?;
+    Ok(true)
 }
 
-fn main() {
-    let mut space = io::large_buffer();
-    let mut turns: usize = 0;
-    while turns < 1000 && answered(&mut space) {
-        turns += 1;
+// A read that fails counts as the end.
+fn main(rt: HostRuntime) -> io::Result<()> {
+    let mut input = rt.stdin();
+    let mut space = [0u8; 65536];
+    for _ in 0..1000 {
+        if !answered(&rt, &mut input, &mut space)? {
+            break;
+        }
     }
+    Ok(())
 }
