@@ -3,10 +3,10 @@ use mathlib.Core.Path.{◌≡◌, refl, sym, ap, ap₂, ◌∙◌}
 use mathlib.Core.Bool.{Bool, ◌&&◌}
 use mathlib.Core.List.{List, ◌++◌}
 use mathlib.Core.Option.{some}
-use Prim.Native.Nat.{ℕ, zero, suc, ◌+◌, ◌-◌, ◌≤◌, ◌<◌}
+use Prim.Native.Nat.{ℕ, suc, ◌+◌, ◌-◌, ◌≤◌, ◌<◌}
 use native.Mathlib.Numerals.{add-one}
 use native.Mathlib.Omega.{arith}
-use lib.ListN.{length, get_elem?, get_or, drop, get_or-append}
+use lib.ListN.{get_elem?, get_or, drop, get_or-append}
 use lib.Seq.{get_or-drop, drop-drop, drop_at}
 use lib.Ieee.{Float}
 use Rattle.fields.specs.Real.{zero64}
@@ -62,7 +62,8 @@ module _ (job : List ℕ) where
 -- ---- from pipe to pipe
 
 module _ (j : Job) (L Q : Float) where
-  -- A walk that has come to pipe p and section s has this head in hand: with it the heads that are left begin, and where a section is passed it is the last one's.
+  -- A walk that has come to pipe p and section s has this head in hand: with it the heads that are left begin, and where a section is passed it is the last
+  -- one's.
   pub record Carried (p s : ℕ) (head : Float) : Type 0 where
     pub left : drop s (heads_of j L Q) ≡ heads_from j Q head (drop p (laid j))
     pub last : 1 ≤ s → head ≡ head_at j L Q (s - 1)

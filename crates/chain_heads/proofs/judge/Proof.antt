@@ -3,7 +3,6 @@
 use mathlib.Core.Path.{◌≡◌, sym}
 use Prim.Native.Nat.{◌-◌, ◌<◌, ◌≤◌}
 use native.Mathlib.Omega.{arith}
-use lib.ListN.{length}
 use borrow.Author.Rules.{rules}
 use Rattle.loops.specs.Loops.{all_below}
 use Rattle.loops.proofs.All.{all_none}
@@ -34,7 +33,9 @@ abbrev tables : tie.At-loop-at invariant-loop decreases-loop → tie.After-pipe_
 tables c = c.before.before
 
 -- the walk has not passed the last pipe
-here : (c : tie.In-loop-at invariant-loop decreases-loop) → c.before.before.loop-at.at.pipe < pipe_count (pipe_table (start (tables c.before.before)).args.job.now)
+here :
+    (c : tie.In-loop-at invariant-loop decreases-loop)
+    → c.before.before.loop-at.at.pipe < pipe_count (pipe_table (start (tables c.before.before)).args.job.now)
 here c = omega (arith, (tables c.before.before).pipe_count-count.ensures.0)
 
 -- the pipe at hand, and the walk past it
@@ -42,8 +43,8 @@ abbrev turn : tie.After-pipe_at-l invariant-loop decreases-loop → tie.At-loop-
 turn c = c.before.before.before
 
 next : (c : tie.After-pipe_at-l invariant-loop decreases-loop)
-    → let s = start (tables (turn c)) in Onward s.args.job.now s.requires (turn c).loop-at.at c.pipe_at.result
-next c = onward _ (start (tables (turn c))).requires _ _ (turn c).loop-at.invariant.1 c.pipe_at.ensures
+    → let s = start (tables (turn c)) in Onward s.args.job.now s.requires (turn c).loop-at.at c.pipe_at-l.result
+next c = onward _ (start (tables (turn c))).requires _ _ (turn c).loop-at.invariant.1 c.pipe_at-l.ensures
 
 -- It stands before the needs of the turn's calls, so that of another head the prover tells this first.
 loop-again : tie.Need-loop-at-preserved invariant-loop decreases-loop
@@ -52,14 +53,15 @@ loop-again c =
     let read : tie.After-pipe_at-l invariant-loop decreases-loop = judged.before in
     let loop = turn read in
     let from = tables loop in
-    let inv = loop.loop-at.inv in
+    let inv = loop.loop-at.invariant in
     let told = judged.judge_pipe-judged.ensures in
     let table-3 = from.before.before.friction-friction.ensures in
     rw c.past-at.ensures (
       search rules,
       (next read).walked,
-      carried_on _ _ _ table-3 (laid_of read.pipe_at.result) inv.2 read.pipe_at.ensures (next read).first_is told.0,
-      tested_on _ _ _ table-3 (laid_of read.pipe_at.result) inv.2 read.pipe_at.ensures (next read).first_is from.before.initial-initial.ensures inv.3 told.1,
+      carried_on _ _ _ table-3 (laid_of read.pipe_at-l.result) inv.2 read.pipe_at-l.ensures (next read).first_is told.0,
+      tested_on _ _ _ table-3 (laid_of read.pipe_at-l.result) inv.2 read.pipe_at-l.ensures (next read).first_is
+          from.before.initial-initial.ensures inv.3 told.1,
     )
 
 judge-requires : tie.Need-judge_pipe-judged-requires invariant-loop decreases-loop

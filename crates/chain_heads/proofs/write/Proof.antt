@@ -34,7 +34,9 @@ abbrev table : tie.At-loop-at invariant-loop decreases-loop → tie.After-pipe_c
 table c = c.before.before
 
 -- the walk has not passed the last pipe
-here : (c : tie.In-loop-at invariant-loop decreases-loop) → c.before.before.loop-at.at.pipe < pipe_count (pipe_table (start (table c.before.before)).args.job.now)
+here :
+    (c : tie.In-loop-at invariant-loop decreases-loop)
+    → c.before.before.loop-at.at.pipe < pipe_count (pipe_table (start (table c.before.before)).args.job.now)
 here c = omega (arith, (table c.before.before).pipe_count-count.ensures.0)
 
 -- the pipe at hand, and the walk past it
@@ -42,8 +44,8 @@ abbrev turn : tie.After-pipe_at-l invariant-loop decreases-loop → tie.At-loop-
 turn c = c.before.before.before
 
 next : (c : tie.After-pipe_at-l invariant-loop decreases-loop)
-    → let s = start (table (turn c)) in Onward s.args.job.now s.requires.0 (turn c).loop-at.at c.pipe_at.result
-next c = onward _ (start (table (turn c))).requires.0 _ _ (turn c).loop-at.invariant.1 c.pipe_at.ensures
+    → let s = start (table (turn c)) in Onward s.args.job.now s.requires.0 (turn c).loop-at.at c.pipe_at-l.result
+next c = onward _ (start (table (turn c))).requires.0 _ _ (turn c).loop-at.invariant.1 c.pipe_at-l.ensures
 
 -- from the end of a turn back to where its pipe has been written, and to the pipe
 abbrev written : tie.After-slice_known-in-loop-at-2-1 invariant-loop decreases-loop → tie.After-write_pipe-head invariant-loop decreases-loop
@@ -57,17 +59,17 @@ loop-again c =
     let done = written c.before in
     let read = read_of done in
     let loop = turn read in
-    let inv = loop.loop-at.inv in
+    let inv = loop.loop-at.invariant in
     let told = done.write_pipe-head.ensures in
     let table-3 = (table loop).before.friction-friction.ensures in
-    let l = laid_of read.pipe_at.result in
-    let kept = done.write_pipe-head.kept.1.1.1.1 in
+    let l = laid_of read.pipe_at-l.result in
+    let kept = done.write_pipe-head.auto in
     rw c.past-at.ensures (
       search rules,
       (next read).walked,
-      carried_on _ _ _ table-3 l inv.2 read.pipe_at.ensures (next read).first_is told.0,
-      (kept.0 ∙ inv.3.0, heads_on _ _ _ table-3 l inv.2 read.pipe_at.ensures (next read).first_is _ inv.3.1 told.1),
-      (kept.1.0 ∙ inv.4.0, filled_pipe _ _ _ _ (next read).first_is inv.4.1 told.2),
+      carried_on _ _ _ table-3 l inv.2 read.pipe_at-l.ensures (next read).first_is told.0,
+      (kept.heads ∙ inv.3.0, heads_on _ _ _ table-3 l inv.2 read.pipe_at-l.ensures (next read).first_is _ inv.3.1 told.1),
+      (kept.flows ∙ inv.4.0, filled_pipe _ _ _ _ (next read).first_is inv.4.1 told.2),
     )
 
 write-requires : tie.Need-write_pipe-head-requires invariant-loop decreases-loop

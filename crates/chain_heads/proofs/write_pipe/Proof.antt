@@ -30,7 +30,7 @@ turn c = c.before.before.before
 
 loop-again : tie.Need-loop-i-preserved invariant-loop decreases-loop
 loop-again c =
-    let inv = (turn c.before).loop-i.inv in (
+    let inv = (turn c.before).loop-i.invariant in (
       upto_step inv.0 (omega arith) refl inv.2,
       upto_step inv.1 (omega arith) refl refl,
       along_more _ _ _ _ _ inv.2 c.head_past-next.ensures,
@@ -47,7 +47,7 @@ over c = c.before.before.before
 returns : tie.Need-returns invariant-loop decreases-loop
 returns c =
     let loop = over c in
-    let inv = loop.loop-i.inv in
+    let inv = loop.loop-i.invariant in
     let end : loop.loop-i.i ≡ (start loop).args.l.reaches = omega arith in (
       rw (← end) inv.2,
       upto_done (upto_step inv.0 (omega arith) refl inv.2) (omega arith),
