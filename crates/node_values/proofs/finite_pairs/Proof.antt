@@ -42,10 +42,10 @@ asked c =
     is ∙ ap₂ (λ x y. finite x && finite y) speed inflow
 
 returns : tie.Need-returns-then-not-both_finite invariant-loop decreases-loop
-returns c = passing_stop _ (turn c.before).loop-node-test.taken (asked c.before) (ap not c.if-not-both_finite.true)
+returns c = passing_stop _ (turn c.before).loop-node-test.true (asked c.before) (ap not c.if-not-both_finite.true)
 
 loop-again : tie.Need-loop-node-preserved invariant-loop decreases-loop
-loop-again c = passing_step _ (turn c.before).before.loop-node.invariant (turn c.before).loop-node-test.taken (asked c.before) (ap not c.if-not-both_finite.false)
+loop-again c = passing_step _ (turn c.before).before.loop-node.invariant (turn c.before).loop-node-test.true (asked c.before) (ap not c.if-not-both_finite.false)
 
 pub finite_pairs_spec : {M : Type 1} → statement M
 finite_pairs_spec =

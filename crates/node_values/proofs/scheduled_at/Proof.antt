@@ -57,8 +57,8 @@ loop-again c =
     let from : tie.After-counts-counts invariant-loop decreases-loop = tables turn in
     let inv = turn.before.loop-node.invariant in (
       sum_before_more _ _ inv.0 counted.schedule_count-count.ensures.0 counted.schedule_count-count.ensures.1,
-      upto_step inv.1 turn.loop-node-test.taken (omega arith)
-          (scheduled_is _ _ _ from.before.before.nodes-nodes.ensures from.counts-counts.ensures from.before.schedules-schedules.ensures turn.loop-node-test.taken
+      upto_step inv.1 turn.loop-node-test.true (omega arith)
+          (scheduled_is _ _ _ from.before.before.nodes-nodes.ensures from.counts-counts.ensures from.before.schedules-schedules.ensures turn.loop-node-test.true
           inv.0.sum counted.schedule_count-count.ensures.0 c.value_at.ensures),
     )
 

@@ -49,7 +49,7 @@ node_is c = c.node_of-node.ensures ∙ ap (λ (trips : List ℕ). (trip_in trips
 present : (c : tie.After-node_of-node invariant-loop decreases-loop) → c.node_of-node.result < node_count (node_table (start (counted (turn c)).before).args.job.now)
 present c = omega (arith, node_is c, (good (turn c)).present)
 
-value_there : (c : tie.After-node_of-node invariant-loop decreases-loop) → c.node_of-node.result < length (turn c).before.loop-i.values-1
+value_there : (c : tie.After-node_of-node invariant-loop decreases-loop) → c.node_of-node.result < length (turn c).before.loop-i.values
 value_there c = omega (arith, present c, (turn c).before.loop-i.invariant.2.long)
 
 low : (c : tie.After-node_of-node invariant-loop decreases-loop) → c.node_of-node.result < 32
@@ -73,7 +73,7 @@ loop-again c =
     let at = turn read in
     let begun = start (counted at).before in
     let a = begun.args in (
-      omega (arith, at.loop-i-test.taken),
+      omega (arith, at.loop-i-test.true),
       simp length-set at.before.loop-i.invariant.1,
       record_taken _ begun.requires.0.0 _ a.speeds.now a.inflows.now _ (here at) (counted at).before.trips-trips.ensures read.node_of-node.ensures (speed_there read) (inflow_there read)
           at.before.loop-i.invariant.2 c.value_by.ensures,
@@ -90,7 +90,7 @@ same_length : tie.Need-shape_of-values invariant-loop decreases-loop
 same_length c =
     let loop : tie.At-loop-i invariant-loop decreases-loop = c.before in
     let scheduled : tie.After-scheduled_at invariant-loop decreases-loop = loop.before.before.before.before.before in
-    loop.loop-i.invariant.1 ∙ scheduled.scheduled_at.auto.1.1.0
+    loop.loop-i.invariant.1 ∙ scheduled.scheduled_at.auto.values
 
 returns : tie.Need-returns invariant-loop decreases-loop
 returns c =
