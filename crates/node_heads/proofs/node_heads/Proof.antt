@@ -42,7 +42,7 @@ node-with-requires : tie.Need-node_with-with_value-requires invariant-loop decre
 node-with-requires c κs =
     let turn : tie.In-loop-node invariant-loop decreases-loop = c.before in
     let table : tie.After-nodes-nodes invariant-loop decreases-loop = turn.before.before in
-    (rw table.nodes-nodes.ensures (tables_right _ (start table).requires.1).nodes-nodes.figures, turn.loop-node-test.true)
+    (rw table.nodes-nodes.ensures (tables_right _ (start table).requires.1).nodes.figures, turn.loop-node-test.true)
 
 -- the node read is the recurrence's
 node_read : (c : tie.After-node_with-with_value invariant-loop decreases-loop)
@@ -67,11 +67,11 @@ solved-in c = c.before.before.before.before
 solved : (c : tie.After-for_ends-solved invariant-loop decreases-loop)
     → let a = (start (solved-in c).before.before).args in
     let node = (solved-in c).before.loop-node.node in
-    (c.for_ends-solved.result.head ≡ head_by a.job.now a.values.now a.t4 node) × (c.for_ends-solved.result.inflow ≡ inflow_by a.job.now a.values.now a.t4 node)
+    (c.for_ends-solved.result.head ≡ head_by a.job.now a.values.now a.sums node) × (c.for_ends-solved.result.inflow ≡ inflow_by a.job.now a.values.now a.sums node)
 solved c =
     let is = c.for_ends-solved.ensures in
     let a = (start (solved-in c).before.before).args in
-    let s = sums_in a.t4 (solved-in c).before.loop-node.node in
+    let s = sums_in a.sums (solved-in c).before.loop-node.node in
     let node = node_read c.before.before in
     (is.0 ∙ ap (λ (n : Node). node_head (for_ends n s) s) node, is.1 ∙ ap (λ (n : Node). node_inflow n s) node)
 
@@ -79,8 +79,8 @@ loop-again : tie.Need-loop-node-preserved invariant-loop decreases-loop
 loop-again c =
     let turn = solved-in c in
     let inv = turn.before.loop-node.invariant in (
-      upto_step inv.0 turn.loop-node-test.taken (omega arith) (solved c).0,
-      upto_step inv.1 turn.loop-node-test.taken (omega arith) (solved c).1,
+      upto_step inv.0 turn.loop-node-test.true (omega arith) (solved c).0,
+      upto_step inv.1 turn.loop-node-test.true (omega arith) (solved c).1,
     )
 
 returns : tie.Need-returns invariant-loop decreases-loop

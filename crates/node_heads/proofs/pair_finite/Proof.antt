@@ -23,7 +23,7 @@ returns-4 : tie.Need-returns-in-Pump
 unfolding pair_finite
 returns-4 c =
     let speed = c.in-Pump.speed in
-    let inflow = c.before.before.before.before.args.inflow in
+    let inflow = c.args.inflow in
     let is : c.both_finite.result ≡ finite speed && finite inflow = c.both_finite.ensures in
     rw c.in-Pump.is is
 
