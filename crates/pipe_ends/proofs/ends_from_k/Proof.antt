@@ -33,7 +33,7 @@ here : (c : tie.In-loop-at invariant-loop decreases-loop) → c.before.before.lo
 here c = omega (arith, c.before.before.before.before.pipe_count-count.ensures.0)
 
 -- there is room for the ends of one pipe more
-room : (c : tie.In-loop-at invariant-loop decreases-loop) → c.before.before.loop-at.at.pipe * 4 + 4 ≤ length c.before.before.loop-at.spare-1
+room : (c : tie.In-loop-at invariant-loop decreases-loop) → c.before.before.loop-at.at.pipe * 4 + 4 ≤ length c.before.before.loop-at.spare
 room c = omega (arith, here c, c.before.before.loop-at.invariant.2, (start c.before.before).requires.2)
 
 pipe-at-requires : tie.Need-pipe_at-l-requires invariant-loop decreases-loop
@@ -41,10 +41,10 @@ pipe-at-requires c κs = ((start c.before.before).requires.0, here c, c.before.b
 
 -- the pipe at hand, and the walk past it
 next : (c : tie.After-pipe_at-l invariant-loop decreases-loop)
-    → let loop : tie.At-loop-at invariant-loop decreases-loop = c.before.before.before in Onward (start loop).args.job.now (start loop).requires.0 loop.loop-at.at c.pipe_at.result
+    → let loop : tie.At-loop-at invariant-loop decreases-loop = c.before.before.before in Onward (start loop).args.job.now (start loop).requires.0 loop.loop-at.at c.pipe_at-l.result
 next c =
     let loop : tie.At-loop-at invariant-loop decreases-loop = c.before.before.before in
-    onward _ (start loop).requires.0 _ _ loop.loop-at.invariant.1 c.pipe_at.ensures
+    onward _ (start loop).requires.0 _ _ loop.loop-at.invariant.1 c.pipe_at-l.ensures
 
 pipe-ends-requires : tie.Need-pipe_ends-requires invariant-loop decreases-loop
 pipe-ends-requires c κs =
@@ -63,13 +63,13 @@ loop-again c =
     let args = (start loop).args in
     let inv = loop.loop-at.invariant in
     let is = stored.pipe_ends.ensures in
-    let l = laid_of read.pipe_at.result in
+    let l = laid_of read.pipe_at-l.result in
     rw c.past-at.ensures (
       search rules,
       (next read).walked,
       search rules,
-      ends_more args.job.now args.nodes.now args.spare-1.now loop.loop-at.spare-1 loop.loop-at.at.pipe l inv.4 is (room read.before) read.pipe_at.ensures inv.3,
-      ends_rest args.job.now args.nodes.now args.spare-1.now loop.loop-at.spare-1 loop.loop-at.at.pipe l inv.4 is,
+      ends_more args.job.now args.nodes.now args.spare.now loop.loop-at.spare loop.loop-at.at.pipe l inv.4 is (room read.before) read.pipe_at-l.ensures inv.3,
+      ends_rest args.job.now args.nodes.now args.spare.now loop.loop-at.spare loop.loop-at.at.pipe l inv.4 is,
     )
 
 returns : tie.Need-returns invariant-loop decreases-loop

@@ -52,13 +52,13 @@ pipe-at-requires c κs = ((entry c.before.before).requires.0.accepted, here c, c
 -- the pipe at hand, and the walk past it
 next : (c : tie.After-pipe_at-l invariant-loop decreases-loop)
     → let loop : tie.At-loop-at invariant-loop decreases-loop = c.before.before.before in
-    Onward (entry loop).args.job.now (entry loop).requires.0.accepted loop.loop-at.at c.pipe_at.result
+    Onward (entry loop).args.job.now (entry loop).requires.0.accepted loop.loop-at.at c.pipe_at-l.result
 next c =
     let loop : tie.At-loop-at invariant-loop decreases-loop = c.before.before.before in
-    onward _ (entry loop).requires.0.accepted _ _ loop.loop-at.invariant.1 c.pipe_at.ensures
+    onward _ (entry loop).requires.0.accepted _ _ loop.loop-at.invariant.1 c.pipe_at-l.ensures
 
 k-at-start-requires : tie.Need-k_at_start-at_start-requires invariant-loop decreases-loop
-k-at-start-requires c κs = ((entry c.before.before.before).requires.0, record { number = _; is = c.pipe_at.ensures })
+k-at-start-requires c κs = ((entry c.before.before.before).requires.0, record { number = _; is = c.pipe_at-l.ensures })
 
 k-at-finish-requires : tie.Need-k_at_finish-at_finish-requires invariant-loop decreases-loop
 k-at-finish-requires c κs = k-at-start-requires c.before κs
@@ -78,8 +78,8 @@ loop-again c =
     let read : tie.After-pipe_at-l invariant-loop decreases-loop = ks.before.before in
     let loop : tie.At-loop-at invariant-loop decreases-loop = read.before.before.before in
     let inv = loop.loop-at.invariant in
-    let l = laid_of read.pipe_at.result in
-    let is = read.pipe_at.ensures in
+    let l = laid_of read.pipe_at-l.result in
+    let is = read.pipe_at-l.ensures in
     let p = loop.loop-at.at.pipe in
     let at_start_figure = ks.before.k_at_start-at_start.ensures in
     let at_finish_figure = ks.k_at_finish-at_finish.ensures in

@@ -18,7 +18,7 @@ abbrev kept : tie.After-node_heads → tie.After-keep_k-sums
 kept c = c.before.before.before.before.before
 
 abbrev headed : tie.After-ends_from_k → tie.After-node_heads
-headed c = c.before.before.before.before.before.before.before
+headed c = c.before.before.before.before.before.before
 
 -- It stands before what the calls ask, so that of exchanged rows the prover tells this first.
 returns : tie.Need-returns
@@ -29,7 +29,7 @@ returns c =
     let ok = (start ks).requires.0.1.accepted in
     let values = (start ks).args.values.now in
     let sums = ks.keep_k-sums.ensures.0 in
-    let by_heads : EndsByK (start ks).args.job.now found.node_heads.last.1.1.1.1.0 ks.keep_k-sums.last.1.1.1.1.0 ended.ends_from_k.new.1.1.0 = ended.ends_from_k.ensures.0 in
+    let by_heads : EndsByK (start ks).args.job.now found.node_heads.new.heads ks.keep_k-sums.new.spare ended.ends_from_k.new.spare = ended.ends_from_k.ensures.0 in
     let nodes = heads_by_sums _ ok _ _ values sums found.node_heads.ensures.0 in (
       inflows_by_sums _ ok _ _ values sums found.node_heads.ensures.1,
       ends_in _ ok _ _ _ nodes ks.keep_k-sums.ensures.1 by_heads,
