@@ -16,7 +16,7 @@ returns c =
     let cleared = c.before.before in
     let counted = cleared.before.before in
     let start : tie.Start = counted.before.before.before in
-    let filled : cleared.clear_row.new.1.0 ≡ fill (λ (s : ℕ). zero64) start.args.spare-1.now 0 (counted.pipe_count-used.result * 4) =
+    let filled : cleared.clear_row.new.dst ≡ fill (λ (s : ℕ). zero64) start.args.spare.now 0 (counted.pipe_count-used.result * 4) =
     cleared.clear_row.ensures in
     rw counted.pipe_count-used.ensures.0 at filled
 

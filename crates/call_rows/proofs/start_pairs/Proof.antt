@@ -51,9 +51,9 @@ returns c =
     let from = read stored.before in
     let pair = start_pair _ (start from).requires.0 _ from.scheduled_at.ensures in
     let a = (start from).args in
-    let values = from.scheduled_at.last.1.1.0 in
-    let left = stored.write_pairs.new.1.1.1 in
-    let is : PairsLeft a.job.now values (replicate 32 zero64) a.speeds-1.now a.inflows-1.now left.0 left.1.0 = stored.write_pairs.ensures in (
+    let values = from.scheduled_at.new.values in
+    let left = stored.write_pairs.new in
+    let is : PairsLeft a.job.now values (replicate 32 zero64) a.speeds.now a.inflows.now left.speeds left.inflows = stored.write_pairs.ensures in (
       is.0 ∙ fill_cong _ _ _ 0 _ (λ y h. ap (λ (d : Drive). d.speed) (pair y h)),
       is.1 ∙ fill_cong _ _ _ 0 _ (λ y h. ap (λ (d : Drive). d.inflow) (pair y h)),
     )
