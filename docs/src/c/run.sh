@@ -4,7 +4,7 @@
 set -euo pipefail
 cd "$(dirname "$0")/../../.."
 
-library=target/staticlib/libc_interface.a
+library=crates/c_interface/out/libc_interface.a
 folder=target/c
 mkdir -p "$folder"
 fail() { echo "the C programs fail: $*" >&2; exit 1; }

@@ -34,16 +34,19 @@ def changed(edit, folder):
     return texts, None if texts else "it changes nothing"
 
 
+def copied_all(copy):
+    """Makes a copy of the crates, with what is proved of them, and without their must-fail edits."""
+    shutil.copytree(TOP / "crates", copy / "crates", ignore=shutil.ignore_patterns("must-fail"))
+    shutil.copy(TOP / "crates.txt", copy)
+
+
 def copied(edit, copy):
     """Makes a copy of the crates, with what is proved of them, in which an edit of the repository is made; answers
     what is wrong with the edit, if anything."""
     texts, why = changed(edit, TOP)
     if why:
         return why
-    shutil.copytree(TOP / "crates", copy / "crates", ignore=shutil.ignore_patterns("must-fail"))
-    shutil.copy(TOP / "crates.txt", copy)
-    for part in ("rlib", "stamp"):
-        shutil.copytree(TOP / "target" / part, copy / "target" / part)
+    copied_all(copy)
     for path, text in texts.items():
         (copy / path).write_text(text)
     return None

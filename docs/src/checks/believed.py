@@ -37,16 +37,16 @@ TYPES = {
     "surge": "answer.Answer",
     "valve_setting": "answer.Setting",
 }
-TOOLCHAIN = ("Prim", "mathlib", "lib", "denote")  # libraries that are assumed with the prover
+TOOLCHAIN = ("Prim", "mathlib", "lib", "denote")  # libraries that are assumed with the prover, as std's specs are
 BELIEVED = {(crate, name) for crate, names in FILES.items() for name in names.split()}
 DECLARED = {(crate, name) for crate, names in TYPES.items() for name in names.split()}
-IMPORT = re.compile(r"\s*(?:pub )?use ([^\s.]+)")
+IMPORT = re.compile(r"\s*(?:pub )?use ([^\s.]+)(?:\.(\w+))?")
+STD = ("Rattle.std.specs.", "Rattle.std.proofs.Math.")  # the second passes on lists and options of the logic
 
 
 def rests_on(path):
     """What a path into a crate leads to, of BELIEVED or DECLARED; or nothing."""
-    library, *parts = path.rstrip(".").split(".")
-    crate = library.split("·")[1]
+    _, crate, *parts = path.rstrip(".").split(".")
     if parts[:1] != ["specs"]:
         return None
     starts = [".".join(parts[1:n]) for n in range(len(parts), 1, -1)]  # the longest first
@@ -63,9 +63,11 @@ def definitions(crate, name):
     used, bad = set(), []
     for line in text:
         root = IMPORT.match(line)
-        if re.match(r"\s*(?:pub )?mod ", line) or (root and root[1] not in TOOLCHAIN and "Rattle·" not in root[1]):
+        if re.match(r"\s*(?:pub )?mod ", line) or (root and root[1] not in (*TOOLCHAIN, "Rattle")):
             bad.append("%s: not followed: %s" % (file, line.strip()))
-        for path in re.findall(r"Rattle·[^\s(){}\[\],;]+", line):
+        for path in re.findall(r"Rattle\.[^\s(){}\[\],;]+", line):
+            if path.startswith(STD):
+                continue
             if (found := rests_on(path)):
                 used.add(found)
             else:

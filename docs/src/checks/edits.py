@@ -1,24 +1,23 @@
 #!/usr/bin/env python3
-"""edits.py [all | CRATE/LABEL..]: what the logs of the must-fail edits say first.
+"""edits.py LOG [CRATE/LABEL..]: what the must-fail edits are refused for.
 
-Run after `rt ci` (or `rt must-fail`, or one-edit.sh) from anywhere. It looks at three things: that every edit says in
-its first line, after '# ', which slip it is; that it has been tried; and that the first error in its log, errors that
-only follow from another left out, has none of the words by which an error is known that shows nothing (a tactic gave
-up, a name or a need is not there: the proof file no longer fits the code) or that can't be read (the types are cut
-off or were not computed, and no difference between them is told). Whether the error is the fact that the slip breaks,
-words can't tell: read it. With 'all' it prints the first error of every edit; with names it looks at those alone and
-prints theirs.
+LOG is what `rt ci` or `rt must-fail` wrote. Of each edit it looks at three things: that it says in its first line,
+after '# ', which slip it is; that it has been refused, and not for a name that it took away; and that the first error
+of its check has none of the words by which an error is known that shows nothing (a tactic gave up, a name or a goal is
+not there: the proof file no longer fits the code). LOG holds no more than the beginning of that error: one-edit.sh
+prints it whole. Whether the error is the fact that the slip breaks, words can't tell: read it. With names it looks at
+those alone and prints theirs.
 """
 import pathlib
 import re
 import sys
 
 TOP = pathlib.Path(__file__).resolve().parents[3]
-FOLLOWS = "so this cannot be checked"
+FOLLOWS = ("not checked: ", "were not checked", "was not checked")
 SHOWS_NOTHING = (
     ("a tactic gave up", r"met a bound of its own|step limit|ran out of steps|gave up|did not finish|no verdict"),
     ("a name is not there", r"is not in scope|has no `[^`]*` that can be named|no module named|unknown name"),
-    ("a need can't be named", r"Need-[^`]*` that can be named|takes \d+ arguments?, but|is given too many arguments"),
+    ("a goal can't be named", r"Need-[^`]*` that can be named|takes \d+ arguments?, but|is given too many arguments"),
     ("another place than the proof has", r"expected type `tie\.(?:After|Then|Else|At|In|Joined|Start)"),
     ("a rewriting found no place", r"no occurrence of the path's|no part of the goal"),
     ("something is undetermined", r"was not determined|unsolved"),
@@ -38,7 +37,7 @@ def first_error(log):
     need."""
     lines = log.split("\n")
     for i, line in enumerate(lines):
-        if re.search(r": error: ", line) and FOLLOWS not in line:
+        if re.search(r": error: ", line) and not any(words in line for words in FOLLOWS):
             rest = []
             for more in lines[i + 1:]:
                 if not more.startswith("  "):
@@ -51,38 +50,49 @@ def first_error(log):
     return ""
 
 
-def faults(error):
-    """What is wrong with a first error, as far as words tell."""
-    if not error:
-        yield "no error in its log"
+def shows_nothing(error):
     for what, words in SHOWS_NOTHING:
         if re.search(words, error):
             yield "shows nothing (%s)" % what
+
+
+def faults(error):
+    """What is wrong with a whole first error, as far as words tell."""
+    if not error:
+        yield "no error in its log"
+    yield from shows_nothing(error)
     for what, words in NOT_READABLE:
         if re.search(words, error) and not re.search(DIFFERENCE, error):
             yield "can't be read (%s)" % what
 
 
+REFUSED = re.compile(r"^rt: must-fail (\S+)/(\S+)\.edit: refused, as it must be(.*)$", re.M)
+
+
 def main():
-    named = sys.argv[1:]
+    if len(sys.argv) < 2:
+        print(__doc__)
+        return 2
+    said = {"%s/%s" % (m[1], m[2]): m[3] for m in REFUSED.finditer(pathlib.Path(sys.argv[1]).read_text(errors="replace"))}
+    named = sys.argv[2:]
     bad, count = [], 0
     for edit in sorted((TOP / "crates").glob("*/must-fail/*.edit")):
         name = "%s/%s" % (edit.parts[-3], edit.stem)
-        if named not in ([], ["all"]) and name not in named:
+        if named and name not in named:
             continue
         count += 1
         if not edit.read_text().startswith("# "):
             bad.append("%s: its first line does not say which slip it is" % name)
-        log = TOP / "target/must-fail" / name / ".log"
-        if not log.exists():
-            bad.append("%s: it has not been tried" % name)
+        if name not in said:
+            bad.append("%s: it has not been refused" % name)
             continue
-        error = first_error(log.read_text(errors="replace"))
-        shown = re.sub(r"^.*?/must-fail/[^/]*/[^/]*/", "", error)
-        bad += ["%s: %s: %s" % (name, what, shown[:300]) for what in faults(error)]
+        only, _, error = said[name].partition("): ") if said[name].startswith(" (") else ("", "", said[name])
+        if only:
+            bad.append("%s: refused%s)" % (name, only[:200]))
+        bad += ["%s: %s: %s" % (name, what, error[:300]) for what in shows_nothing(error)]
         if named:
-            print("%s: %s" % (name, shown[:1200]))
-    says = "says its slip, has been tried, and its first error has no word of one that shows nothing or can't be read"
+            print("%s: %s" % (name, said[name]))
+    says = "says its slip, has been refused, and its first error has no word of one that shows nothing"
     print("\n".join(bad) if bad else "%d must-fail edits: each %s" % (count, says))
     return 1 if bad else 0
 

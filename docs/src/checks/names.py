@@ -15,6 +15,7 @@ import sys
 
 TOP = pathlib.Path(__file__).resolve().parents[3]
 CRATES = TOP / "crates"
+ANSWERS = ("Answers.antt", "Invariants.antt")  # Rattle looks these names up
 TOKEN = re.compile(r"[^\s(){}\[\];,«»⌜⌝:.]+")
 SIGNATURE = re.compile(r"(?:pub )?(?:unfoldable |abbrev )?(?:pub )?(?:(record|data) )?([^\s:(){}]+)(?=[\s:]).*")
 IMPORT = re.compile(r"^\s*(?:pub |ghost )?use ([^\s{;]+?)(?:\.\{([^}]*)\})?(?: as (\w+))?;?\s*$")
@@ -22,9 +23,9 @@ FUNCTION = re.compile(r"^\s*(pub )?(?:extern \"C\" )?fn (\w+)")
 
 
 def module_file(path):
-    """The file of one of our modules, as Rattle·job.specs.Format or Rattle·job·specs.specs.Format names it."""
-    m = re.match(r"Rattle·(\w+?)(?:·(?:specs|proofs))?\.(specs|proofs)\.(.+)$", path)
-    return CRATES / m[1] / m[2] / (m[3].replace(".", "/") + ".antt") if m else None
+    """The file of one of our modules, as Rattle.job.specs.Format names it."""
+    m = re.match(r"Rattle\.(\w+)\.(specs|proofs)\.(.+)$", path)
+    return CRATES / m[1] / m[2] / (m[3].replace(".", "/") + ".antt") if m and (CRATES / m[1]).is_dir() else None
 
 
 class Antt:
@@ -96,12 +97,14 @@ class Antt:
 
 
 def operator(name):
-    return name.strip("_") if name.startswith("_") and name.endswith("_") and len(name) > 2 else name
+    return name.strip("◌") if name.startswith("◌") and name.endswith("◌") and len(name) > 2 else name
 
 
 def read_all():
     antt, code = {}, {}
     for f in sorted(CRATES.rglob("*")):
+        if "out" in f.relative_to(CRATES).parts[:2]:
+            continue
         if f.suffix == ".antt":
             antt[f] = Antt(f)
         elif f.suffix == ".rt":
@@ -146,7 +149,7 @@ def unused_declarations(antt, code):
                 used[module_file(m[1])].update(re.findall(m[2] + r"\.(\w+)", text))
     for f, a in antt.items():
         for name in dict.fromkeys(n for n, _ in a.blocks if n):
-            own = f.name == "Proof.antt" and name.endswith("-spec")
+            own = f.name in ANSWERS or f.name == "Proof.antt" and name.endswith("_spec")
             if not own and name not in used[f] and operator(name) not in a.tokens(skip=name):
                 yield "%s: %s is named nowhere" % (f.relative_to(CRATES), name)
 
@@ -157,7 +160,7 @@ def unused_imports(antt, code):
         body = "\n".join(line for _, text in a.blocks for line in text)
         for module, name, shown in a.imports:
             shut = operator(shown)
-            if shut not in tokens and not any(part in body for part in shut.split("_") if part) and "pub use" not in body:
+            if shut not in tokens and not any(part in body for part in shut.split("◌") if part) and "pub use" not in body:
                 if not re.search(r"^pub use .*\b%s\b" % re.escape(name), f.read_text(), re.M):
                     yield "%s: %s of %s is imported and not used" % (f.relative_to(CRATES), name, module)
     for f, text in code.items():
@@ -171,7 +174,7 @@ def calls_elsewhere(f, name, code):
     """Whether another file calls a function: by its module's name, by a method, or by a `use` of it."""
     stem = f.relative_to(CRATES).parts[0] if f.name in ("lib.rt", "main.rt") else f.stem
     by_path = re.compile(r"\b(?:%s|super|Self|[A-Z]\w*)::%s\b|\.%s\(" % (stem, name, name))
-    return any(by_path.search(code_body(t)) or re.search(r"^\s*(?:pub )?use [\w:]*\b(?:%s|super)::%s;" % (stem, name), t, re.M)
+    return any(by_path.search(code_body(t)) or re.search(r"^\s*(?:pub )?use [\w:]*\b(?:%s|super)::(?:%s|\{[^}]*\b%s\b[^}]*\});" % (stem, name, name), t, re.M)
                for g, t in code.items() if g != f)
 
 
@@ -194,7 +197,7 @@ def functions(code):
 def cited(antt, code):
     known = set()
     for f in TOP.rglob("*"):
-        if {"target", ".git"} & set(f.relative_to(TOP).parts):
+        if {"target", "out", ".git"} & set(f.relative_to(TOP).parts):
             continue
         known.update(f.relative_to(TOP).parts)
         known.add(f.stem)

@@ -1,7 +1,7 @@
 #!/usr/bin/env bash
 # one-edit.sh CRATE [LABEL..]: tries the must-fail edits of one crate, or those named, and prints the first error of
-# each. `rt must-fail CRATE` tries those of every crate below it too. It works from any folder, and leaves the logs
-# where `rt must-fail` leaves them. The crate and those below it are proved first where they are not.
+# each whole, where `rt must-fail` prints its beginning. It works from any folder. The crates below are proved first
+# where they are not.
 set -euo pipefail
 top=$(cd "$(dirname "$0")/../../.." && pwd -P)
 
@@ -24,18 +24,12 @@ for label; do
   exit 2
 done
 
-# A copy of the crates in which no other edit stands; what was proved, and the logs, stay in the repository's target/.
+# A copy of the crates for each edit, with what was proved of them.
 work=$(mktemp -d)
 trap 'rm -rf "$work"' EXIT
-cd "$top"
-rt check "$crate" >"$work/log" 2>&1 || { cat "$work/log"; exit 1; }
-cp -r crates crates.txt "$work"
-ln -s "$top/target" "$work/target"
-rm -rf "$work"/crates/*/must-fail
-mkdir "$work/crates/$crate/must-fail"
-for label; do cp "$edits/$label.edit" "$work/crates/$crate/must-fail"; done
+(cd "$top/crates/$crate" && rt check) >"$work/log" 2>&1 || { cat "$work/log"; exit 1; }
 status=0
-(cd "$work" && rt must-fail "$crate") >"$work/log" 2>&1 || status=$?
-grep '^rt: must-fail' "$work/log" || cat "$work/log"
-python3 docs/src/checks/edits.py $(printf "$crate/%s " "$@") || status=1
+for label; do
+  python3 "$top/docs/src/checks/first_error.py" "$crate" "$label" || status=1
+done
 exit "$status"

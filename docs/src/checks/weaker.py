@@ -24,8 +24,8 @@ CLAIMS, USES = "recurrence", "border_cases"
 
 def checked(crate, copy):
     """Whether a crate is proved, and the first error where it is not."""
-    run = subprocess.run(["rt", "check", crate], cwd=copy, stdout=subprocess.PIPE, stderr=subprocess.STDOUT, text=True)
-    return run.returncode == 0, first_error(run.stdout).replace(str(copy) + "/", "")
+    run = subprocess.run(["rt", "check"], cwd=copy / "crates" / crate, stdout=subprocess.PIPE, stderr=subprocess.STDOUT, text=True)
+    return run.returncode == 0, first_error(run.stdout).replace(str(copy) + "/", "").replace("./proofs/", "crates/%s/proofs/" % crate)
 
 
 def tried(edit):

@@ -2,7 +2,7 @@
 """wrong_programs.py: each wrong `surgelist` of wrong-programs/ is proved, and pieces.py refuses what it prints.
 
 No contract speaks of what a program reads, so the prover takes such a program: only a test can tell it from ours. This
-shows that it does. Run after `rt check` or `rt ci` from anywhere: the copies take the proved libraries of target/.
+shows that it does. Run after `rt ci` from anywhere: the copies take what it left in the crates' folders.
 """
 import pathlib
 import subprocess
@@ -21,10 +21,14 @@ def tried(edit, copy):
     why = copied(edit, copy)
     if why:
         return why, None
-    proved = subprocess.run(["rt", "check", "surgelist"], cwd=copy, capture_output=True, text=True)
-    if proved.returncode != 0 or "rt: surgelist proved (unchanged" in proved.stdout:
-        return "rt check does not prove it anew:\n" + proved.stdout[-2000:] + proved.stderr[-2000:], None
-    test = subprocess.run([sys.executable, PIECES, copy / "target/bin/surgelist"], capture_output=True, text=True)
+    program = copy / "crates/surgelist/out/surgelist"
+    program.unlink(missing_ok=True)
+    # The sample job's listing is no matter here: what counts is that the program was proved and built.
+    proved = subprocess.run(["rt", "run"], cwd=copy / "crates/surgelist", stdin=subprocess.DEVNULL, capture_output=True, text=True)
+    said = proved.stdout + proved.stderr
+    if "logic=proved" not in said or not program.is_file():
+        return "rt run does not prove and build it:\n" + said[-4000:], None
+    test = subprocess.run([sys.executable, PIECES, program], capture_output=True, text=True)
     lines = test.stdout.rstrip("\n").split("\n")
     if test.returncode == 0 or not all(REFUSED in line for line in lines):
         return "pieces.py does not refuse it: " + test.stdout[-2000:] + test.stderr[-2000:], None

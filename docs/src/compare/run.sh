@@ -4,7 +4,7 @@ set -euo pipefail
 cd "$(dirname "$0")/../../.."
 
 mkdir -p target
-rt staticlib c_interface >target/staticlib.log 2>&1 || { tail -n 20 target/staticlib.log; echo "the static library was not built" >&2; exit 1; }
+(cd crates/c_interface && rt lib) >target/staticlib.log 2>&1 || { tail -n 20 target/staticlib.log; echo "the static library was not built" >&2; exit 1; }
 
 bash docs/src/c/run.sh
 
