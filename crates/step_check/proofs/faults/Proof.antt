@@ -52,24 +52,24 @@ pipe-at-requires c κs = ((entry c.before.before).requires.0.accepted, here c, c
 -- the pipe at hand, and the walk past it
 next : (c : tie.After-pipe_at-l invariant-loop decreases-loop)
     → let loop : tie.At-loop-at invariant-loop decreases-loop = c.before.before.before in
-    Onward (entry loop).args.job.now (entry loop).requires.0.accepted loop.loop-at.at c.pipe_at.result
+    Onward (entry loop).args.job.now (entry loop).requires.0.accepted loop.loop-at.at c.pipe_at-l.result
 next c =
     let loop : tie.At-loop-at invariant-loop decreases-loop = c.before.before.before in
-    onward _ (entry loop).requires.0.accepted _ _ loop.loop-at.invariant.1 c.pipe_at.ensures
+    onward _ (entry loop).requires.0.accepted _ _ loop.loop-at.invariant.1 c.pipe_at-l.ensures
 
 inner-faults-requires : tie.Need-inner_faults-within-requires invariant-loop decreases-loop
-inner-faults-requires c κs = ((entry c.before.before.before).requires.0, record { number = _; is = c.pipe_at.ensures })
+inner-faults-requires c κs = ((entry c.before.before.before).requires.0, record { number = _; is = c.pipe_at-l.ensures })
 
 end-faults-requires : tie.Need-end_faults-ends-requires invariant-loop decreases-loop
 end-faults-requires c κs =
     let read : tie.After-pipe_at-l invariant-loop decreases-loop = c.before.before in
-    ((entry read.before.before.before).requires.0.accepted, record { number = _; is = read.pipe_at.ensures }, room read.before)
+    ((entry read.before.before.before).requires.0.accepted, record { number = _; is = read.pipe_at-l.ensures }, room read.before)
 
 -- what a turn adds is small
 few :
     (c : tie.After-end_faults-ends invariant-loop decreases-loop)
     → let inner : tie.After-inner_faults-within invariant-loop decreases-loop = c.before.before in
-    inner.inner_faults-within.result + c.end_faults-ends.result ≤ inner.before.pipe_at.result.reaches + 3
+    inner.inner_faults-within.result + c.end_faults-ends.result ≤ inner.before.pipe_at-l.result.reaches + 3
 few c = omega (arith, c.before.before.inner_faults-within.ensures.0, c.end_faults-ends.ensures.0)
 
 -- the pipe that a turn has counted
@@ -89,7 +89,7 @@ loop-again c =
     let heads = args.heads.now in
     let flows = args.flows.now in
     let inv = loop.loop-at.invariant in
-    let l = laid_of read.pipe_at.result in
+    let l = laid_of read.pipe_at-l.result in
     let some = (next read).here.joined.has_reach in
     rw c.past-at.ensures (
       search rules,
@@ -97,7 +97,7 @@ loop-again c =
       omega (arith, few counted, inv.2, some),
       λ nodes e.
           judged_more (λ s. is_sound (fault_at (initial_table job) (new_section job nodes heads flows) s)) loop.loop-at.at.section l.pipe.reaches loop.loop-at.bad _ (inv.3 nodes e)
-          (pipe_sound job nodes heads flows args.spare.now e _ l read.pipe_at.ensures some (next read).first_is _ _ counted.before.before.inner_faults-within.ensures.1
+          (pipe_sound job nodes heads flows args.spare.now e _ l read.pipe_at-l.ensures some (next read).first_is _ _ counted.before.before.inner_faults-within.ensures.1
           counted.end_faults-ends.ensures.1),
     )
 

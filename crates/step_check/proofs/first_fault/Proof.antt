@@ -47,15 +47,15 @@ pipe-at-requires c κs = ((entry c.before.before).requires.0.accepted, here c, c
 -- the pipe at hand, and the walk past it
 next : (c : tie.After-pipe_at-l invariant-loop decreases-loop)
     → let loop : tie.At-loop-at invariant-loop decreases-loop = c.before.before.before in
-    Onward (entry loop).args.job.now (entry loop).requires.0.accepted loop.loop-at.at c.pipe_at.result
+    Onward (entry loop).args.job.now (entry loop).requires.0.accepted loop.loop-at.at c.pipe_at-l.result
 next c =
     let loop : tie.At-loop-at invariant-loop decreases-loop = c.before.before.before in
-    onward _ (entry loop).requires.0.accepted _ _ loop.loop-at.invariant.1 c.pipe_at.ensures
+    onward _ (entry loop).requires.0.accepted _ _ loop.loop-at.invariant.1 c.pipe_at-l.ensures
 
 first-in-pipe-requires : tie.Need-first_in_pipe-found-requires invariant-loop decreases-loop
 first-in-pipe-requires c κs =
     let s = entry c.before.before.before in
-    (s.requires.0, record { number = _; is = c.pipe_at.ensures }, omega (arith, here c.before, s.requires.1))
+    (s.requires.0, record { number = _; is = c.pipe_at-l.ensures }, omega (arith, here c.before, s.requires.1))
 
 -- the walk at the pipe that was searched
 abbrev loop-of : tie.After-first_in_pipe-found invariant-loop decreases-loop → tie.At-loop-at invariant-loop decreases-loop
@@ -72,11 +72,11 @@ Ends s nodes = EndsIn s.args.job.now nodes s.args.heads.now s.args.flows.now s.a
 found :
     (c : tie.After-first_in_pipe-found invariant-loop decreases-loop) (nodes : ℕ → Node) → Ends (entry (loop-of c)) nodes
     → found_fault c.first_in_pipe-found.result
-    ≡ first_below earlier none (λ i. faultsOf (entry (loop-of c)) nodes ((loop-of c).loop-at.at.section + i)) (c.before.pipe_at.result.reaches + 1)
+    ≡ first_below earlier none (λ i. faultsOf (entry (loop-of c)) nodes ((loop-of c).loop-at.at.section + i)) (c.before.pipe_at-l.result.reaches + 1)
 found c nodes e =
     let read : tie.After-pipe_at-l invariant-loop decreases-loop = c.before in
     let args = (entry (loop-of c)).args in
-    pipe_searched args.job.now nodes args.heads.now args.flows.now args.spare.now e _ (laid_of read.pipe_at.result) read.pipe_at.ensures
+    pipe_searched args.job.now nodes args.heads.now args.flows.now args.spare.now e _ (laid_of read.pipe_at-l.result) read.pipe_at-l.ensures
     (next read).first_is c.first_in_pipe-found.ensures
 
 -- a fault that is found is the first of all sections
@@ -87,23 +87,23 @@ stop :
 stop c nodes e stays =
     let loop = (loop-of c).loop-at in
     let ahead = next c.before in
-    first_found _ loop.at.section (c.before.pipe_at.result.reaches + 1) (loop.invariant.2 nodes e) (found c nodes e) _ (omega (arith, ahead.here.sections_in, ahead.first_is)) stays
+    first_found _ loop.at.section (c.before.pipe_at-l.result.reaches + 1) (loop.invariant.2 nodes e) (found c nodes e) _ (omega (arith, ahead.here.sections_in, ahead.first_is)) stays
 
 returns : tie.Need-returns-in-NotFinite invariant-loop decreases-loop
 unfolding found_fault earlier first_fault
-returns c = λ nodes e. stop c.before.before nodes e (λ b. rw c.in-NotFinite.is)
+returns c = λ nodes e. stop c.before nodes e (λ b. rw c.in-NotFinite.is)
 
 returns-2 : tie.Need-returns-in-Parted invariant-loop decreases-loop
 unfolding found_fault earlier first_fault
-returns-2 c = λ nodes e. stop c.before.before nodes e (λ b. rw c.in-Parted.is)
+returns-2 c = λ nodes e. stop c.before nodes e (λ b. rw c.in-Parted.is)
 
 loop-again : tie.Need-loop-at-preserved invariant-loop decreases-loop
 unfolding found_fault
 loop-again c =
     let told : tie.In-Sound invariant-loop decreases-loop = c.before in
-    let searched : tie.After-first_in_pipe-found invariant-loop decreases-loop = told.before.before in
+    let searched : tie.After-first_in_pipe-found invariant-loop decreases-loop = told.before in
     let loop = (loop-of searched).loop-at in
-    let n = searched.before.pipe_at.result.reaches in
+    let n = searched.before.pipe_at-l.result.reaches in
     let more : loop.at.section + n + 1 ≡ loop.at.section + (n + 1) = omega arith in
     rw c.past-at.ensures (
       search rules,
@@ -135,7 +135,7 @@ first_fault_spec =
     returns
     (λ c. search rules)
     returns-2
-    (λ c κs. let searched : tie.After-first_in_pipe-found invariant-loop decreases-loop = c.before.before in omega (arith, (next searched.before).low))
+    (λ c κs. let searched : tie.After-first_in_pipe-found invariant-loop decreases-loop = c.before in omega (arith, (next searched.before).low))
     (λ c. rw c.past-at.ensures (search rules))
     loop-again
     returns-3)

@@ -49,10 +49,10 @@ found c =
     let s = start turn.before in
     fault_by_spare_lem s.args.job.now (laid_of s.args.l) s.args.spare.now (s.args.p * 4) s.args.heads.now s.args.flows.now turn.before.loop-i.i
     {floor = c.before.floor_of.result}
-    {x = made.new_at.result}
+    {x = made.new_at-x.result}
     c.fault_of-found.ensures
     c.before.floor_of.ensures
-    made.new_at.ensures
+    made.new_at-x.ensures
 
 -- from where a fault is told back to the turn
 abbrev turn-of : tie.After-fault_of-found invariant-loop decreases-loop → tie.In-loop-i invariant-loop decreases-loop
@@ -61,19 +61,19 @@ turn-of c = c.before.before.before.before
 returns : tie.Need-returns-in-NotFinite invariant-loop decreases-loop
 unfolding found_fault earlier
 returns c =
-    let told : tie.After-fault_of-found invariant-loop decreases-loop = c.before.before in
+    let told : tie.After-fault_of-found invariant-loop decreases-loop = c.before in
     none_stop _ (turn-of told).before.loop-i.invariant (turn-of told).loop-i-test.true (found told) (λ b. rw c.in-NotFinite.is)
 
 returns-2 : tie.Need-returns-in-Parted invariant-loop decreases-loop
 unfolding found_fault earlier
 returns-2 c =
-    let told : tie.After-fault_of-found invariant-loop decreases-loop = c.before.before in
+    let told : tie.After-fault_of-found invariant-loop decreases-loop = c.before in
     none_stop _ (turn-of told).before.loop-i.invariant (turn-of told).loop-i-test.true (found told) (λ b. rw c.in-Parted.is)
 
 loop-again : tie.Need-loop-i-preserved invariant-loop decreases-loop
 unfolding found_fault
 loop-again c =
-    let told : tie.After-fault_of-found invariant-loop decreases-loop = c.before.before in
+    let told : tie.After-fault_of-found invariant-loop decreases-loop = c.before in
     none_more _ (turn-of told).before.loop-i.invariant (turn-of told).loop-i-test.true (sym (found told) ∙ ap found_fault c.in-Sound.is)
 
 returns-3 : tie.Need-returns invariant-loop decreases-loop
@@ -97,7 +97,7 @@ first_in_pipe_spec =
     returns
     (λ c. search rules)
     returns-2
-    (λ c. let turn = turn-of c.before.before in omega (arith, here (start turn.before), turn.loop-i-test.taken))
+    (λ c. let turn = turn-of c.before in omega (arith, here (start turn.before), turn.loop-i-test.true))
     (λ c. search rules)
     loop-again
     returns-3)
