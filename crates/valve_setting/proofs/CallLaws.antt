@@ -18,21 +18,25 @@ use Rattle.job.specs.Job.{Job, sections, floor_at}
 use Rattle.job.specs.Format.{job_of}
 use Rattle.job.specs.Questions.{refusal, Accepted}
 use Rattle.chain.specs.Chain.{is_chain}
-use Rattle.setting.specs.Setting.{head_at, last_head, outlet_head, coefficient_for, head_fits, is_given, refused, none, coefficient, Answer, Called, written, kept, set_or_none, is_chain_with, rows_hold, set_valve}
+use Rattle.setting.specs.Setting.{head_at, last_head, outlet_head, coefficient_for, head_fits, is_given, refused, none}
+use Rattle.setting.specs.Setting.{coefficient, Answer, Called, written, kept, set_or_none, is_chain_with, rows_hold, set_valve}
 use Rattle.setting.proofs.HeadList.{heads_listed}
 
 -- ---- the verdict
 
 -- as the code has it, from what it has worked out
 pub verdict_is :
-    (j : Job) (L Q : Float) {h b a : Float} {fits x y : Bool} → (h ≡ last_head j L Q) × (fits ≡ all_below (λ s. head_fits (floor_at j s) (head_at j L Q s)) (sections j))
+    (j : Job) (L Q : Float) {h b a : Float} {fits x y : Bool}
+    → (h ≡ last_head j L Q) × (fits ≡ all_below (λ s. head_fits (floor_at j s) (head_at j L Q s)) (sections j))
     → b ≡ outlet_head j → a ≡ coefficient_for Q h b → x ≡ finite (h ⊟ b) → y ≡ finite a
     → lt zero64 Q && fits && lt b h && x && y ≡ is_given j L Q
 unfolding is_given
 verdict_is j L Q told eb ea ex ey = rw (ey, ex, ea, eb, told.1, told.0)
 
 module _ (j : Job) (L Q : Float) (heads flows : List Float) where
-  pub none_left : {answer : Answer} → is_given j L Q ≡ false → answer ≡ none → record { heads = heads; flows = flows; answer = answer } ≡ set_or_none j L Q heads flows
+  pub none_left :
+      {answer : Answer} → is_given j L Q ≡ false → answer ≡ none
+      → record { heads = heads; flows = flows; answer = answer } ≡ set_or_none j L Q heads flows
   unfolding set_or_none kept
   none_left h e = rw (h, e)
 
@@ -46,7 +50,9 @@ module _ (j : Job) (L Q : Float) (heads flows : List Float) where
         rw (g, a)
         (λ i. record {
           heads = (e ∙ filled_whole zero64 (head_at j L Q) heads (sections j) h ∙ ap (λ (x : List Float). x ++ drop (sections j) heads) (heads_listed j L Q)) i;
-          flows = (d ∙ filled_whole zero64 (λ (s : ℕ). Q) flows (sections j) f ∙ ap (λ (x : List Float). x ++ drop (sections j) flows) (listed_same (sections j) Q)) i;
+          flows =
+              (d ∙ filled_whole zero64 (λ (s : ℕ). Q) flows (sections j) f
+              ∙ ap (λ (x : List Float). x ++ drop (sections j) flows) (listed_same (sections j) Q)) i;
           answer = coefficient (coefficient_for Q (last_head j L Q) (outlet_head j));
         })
 

@@ -20,7 +20,11 @@ use Rattle.valve_setting.proofs.outlet_head.Tie as tie
 
 module _ (nodes : List ℕ) (node : ℕ) where
   abbrev kind_by : Bool → Bool → Bool → Kind
-  kind_by x y z = cond x junction (cond y reservoir (cond z (valve (a_of nodes node) (b_of nodes node)) (pump (a_of nodes node) (b_of nodes node) (c_of nodes node))))
+  kind_by x y z =
+      cond x junction
+      (cond y reservoir
+      (cond z (valve (a_of nodes node) (b_of nodes node))
+      (pump (a_of nodes node) (b_of nodes node) (c_of nodes node))))
 
   b_of_valve : is_valve (kind_in nodes node) ≡ true → head_behind (kind_in nodes node) ≡ b_of nodes node
   unfolding is_valve head_behind kind_in
@@ -53,7 +57,10 @@ f64-at-requires : tie.Need-f64_at-requires
 f64-at-requires c κs =
     let t = c.before.nodes-nodes.ensures in
     let v = last_valve c in
-    rw (t, c.pipe_count-last.ensures.0) (omega (arith, v.present), (figures_finite _ (tables_right _ (start c.before).requires.0).nodes-nodes.figures _ v.present).b)
+    rw (t, c.pipe_count-last.ensures.0) (
+      omega (arith, v.present),
+      (figures_finite _ (tables_right _ (start c.before).requires.0).nodes.figures _ v.present).b,
+    )
 
 pub outlet_head_spec : {M : Type 1} → statement M
 outlet_head_spec =

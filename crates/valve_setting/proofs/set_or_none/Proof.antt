@@ -1,4 +1,5 @@
--- `valve_setting::set_or_none` meets its contract: the verdict is that of the definition, and the rows are written after it, where it is a yes. Assumes nothing.
+-- `valve_setting::set_or_none` meets its contract: the verdict is that of the definition, and the rows are written after it, where it is a yes. Assumes
+-- nothing.
 use mathlib.Core.Path.{◌≡◌, sym, ap, ap₂, ◌∙◌}
 use mathlib.Core.Bool.{Bool, cond, ◌&&◌}
 use lib.Ieee.{lt}
