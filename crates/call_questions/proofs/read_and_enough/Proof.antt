@@ -18,31 +18,31 @@ abbrev start : tie.After-read-read → tie.Start
 start c = c.before.before
 
 -- what `read` tells of an accepted job
-told : (c : tie.In-Accepted-2)
-    → let job = (start c.before.before).args.job.now in
+told : (c : tie.In-Accepted)
+    → let job = (start c.before).args.job.now in
     (Accepted job) × (c.in-Accepted.sections ≡ sections (job_of job)) × (c.in-Accepted.steps ≡ listing_steps job)
-told c = accepted_is _ _ _ (ap paper_read (sym c.in-Accepted.is) ∙ c.before.before.read-read.ensures)
+told c = accepted_is _ _ _ (ap paper_read (sym c.in-Accepted.is) ∙ c.read-read.ensures)
 
 enough-requires : tie.Need-enough-requires
-enough-requires c κs = let t = told c.before in (t.0, t.1)
+enough-requires c κs = let t = told c in (t.0, t.1)
 
 returns : tie.Need-returns-then-not-enough
 unfolding first_asked
 returns c =
-    let t = told c.before.before.before in
+    let t = told c.before.before in
     rw (eq-eqb _ 0 t.0, is_no c.before.enough.ensures (ap not c.if-not-enough.true))
 
 returns-2 : tie.Need-returns-in-Refused
 unfolding first_asked
 returns-2 c =
-    let read : tie.After-read-read = c.before.before in
+    let read : tie.After-read-read = c.before in
     let r = refused_is (start read).args.job.now _ (ap paper_read (sym c.in-Refused.is) ∙ read.read-read.ensures) in
     ap paper_read c.in-Refused.is ∙ rw (ne_eqb (refusal (start read).args.job.now) 0 r.1, r.0)
 
 returns-3 : tie.Need-returns-else-not-enough
 unfolding first_asked
 returns-3 c =
-    let read : tie.In-Accepted-2 = c.before.before.before in
+    let read : tie.In-Accepted = c.before.before in
     let t = told read in
     ap₂ accepted t.1 t.2 ∙ rw (eq-eqb _ 0 t.0, is_yes c.before.enough.ensures (ap not c.if-not-enough.false))
 
