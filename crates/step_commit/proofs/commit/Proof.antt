@@ -47,10 +47,10 @@ pipe-at-requires c κs = ((entry c.before.before).requires.0.0.accepted, here c,
 -- the pipe at hand, and the walk past it
 next : (c : tie.After-pipe_at-l invariant-loop decreases-loop)
     → let loop : tie.At-loop-at invariant-loop decreases-loop = c.before.before.before in
-    Onward (entry loop).args.job.now (entry loop).requires.0.0.accepted loop.loop-at.at c.pipe_at.result
+    Onward (entry loop).args.job.now (entry loop).requires.0.0.accepted loop.loop-at.at c.pipe_at-l.result
 next c =
     let loop : tie.At-loop-at invariant-loop decreases-loop = c.before.before.before in
-    onward _ (entry loop).requires.0.0.accepted _ _ loop.loop-at.invariant.1 c.pipe_at.ensures
+    onward _ (entry loop).requires.0.0.accepted _ _ loop.loop-at.invariant.1 c.pipe_at-l.ensures
 
 commit-pipe-requires : tie.Need-commit_pipe-requires invariant-loop decreases-loop
 commit-pipe-requires c κs =
@@ -61,7 +61,7 @@ commit-pipe-requires c κs =
     let lent = s.requires.0.0 in (
       (
         record { accepted = lent.accepted; heads_long = omega (arith, long.0, lent.heads_long); flows_long = omega (arith, long.1, lent.flows_long) },
-        record { number = _; is = read.pipe_at.ensures },
+        record { number = _; is = read.pipe_at-l.ensures },
         omega (arith, here read.before, s.requires.0.1),
       ),
       (omega (arith, long.2, s.requires.1.0), omega (arith, long.3, s.requires.1.1)),
@@ -81,13 +81,13 @@ loop-again c =
     let loop : tie.At-loop-at invariant-loop decreases-loop = read.before.before.before in
     let args = (entry loop).args in
     let inv = loop.loop-at.invariant in
-    let kept = done.commit_pipe.kept.1.1.1.1 in
+    let kept = done.commit_pipe.auto in
     rw c.past-at.ensures (
       search rules,
       (next read).walked,
-      (kept.0 ∙ inv.2.0, kept.1.0 ∙ inv.2.1, kept.1.1.0 ∙ inv.2.2, kept.1.1.1.0 ∙ inv.2.3),
+      (kept.heads ∙ inv.2.0, kept.flows ∙ inv.2.1, kept.highest ∙ inv.2.2, kept.lowest ∙ inv.2.3),
       λ nodes e.
-          pipe_more args.job.now nodes args.heads-1.now args.flows-1.now args.spare.now e _ (laid_of read.pipe_at.result) read.pipe_at.ensures
+          pipe_more args.job.now nodes args.heads.now args.flows.now args.spare.now e _ (laid_of read.pipe_at-l.result) read.pipe_at-l.ensures
           (next read).first_is (inv.3 nodes e) done.commit_pipe.ensures refl,
     )
 

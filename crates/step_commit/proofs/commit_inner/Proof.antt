@@ -34,13 +34,13 @@ commit-requires c κs =
     let read : tie.After-friction-friction = cut.before.before.before in
     let s = start_of read.before in
     let is = s.requires.0.1 in
-    let heads = s.args.heads-1.now in
-    let n = cut_length _ heads s.args.flows-1.now s.requires.0.0 (laid_of s.args.l) is in
+    let heads = s.args.heads.now in
+    let n = cut_length _ heads s.args.flows.now s.requires.0.0 (laid_of s.args.l) is in
     let long = n heads s.requires.0.0.heads_long in (
       rw read.friction-friction.ensures (cut_to_pipe _ _ _ s.requires.0.0 (laid_of s.args.l) is),
       (
-        omega (arith, n s.args.highest-1.now s.requires.1.0),
-        omega (arith, n s.args.lowest-1.now s.requires.1.1),
+        omega (arith, n s.args.highest.now s.requires.1.0),
+        omega (arith, n s.args.lowest.now s.requires.1.1),
       ),
     )
 
@@ -53,15 +53,15 @@ returns c =
     let s = start_of read.before in
     let e = rw read.friction-friction.ensures at written.commit.ensures in
     let job = s.args.job.now in
-    let heads = s.args.heads-1.now in
-    let flows = s.args.flows-1.now in
+    let heads = s.args.heads.now in
+    let flows = s.args.flows.now in
     let lent = s.requires.0.0 in
     let l = laid_of s.args.l in
     let is = s.requires.0.1 in (
       put_back job heads flows lent l is keep_new (λ x. x.head) heads lent.heads_long e.0,
       put_back job heads flows lent l is keep_new (λ x. x.flow) flows lent.flows_long e.1,
-      put_back job heads flows lent l is raised (λ x. x.head) s.args.highest-1.now s.requires.1.0 e.2,
-      put_back job heads flows lent l is lowered (λ x. x.head) s.args.lowest-1.now s.requires.1.1 e.3,
+      put_back job heads flows lent l is raised (λ x. x.head) s.args.highest.now s.requires.1.0 e.2,
+      put_back job heads flows lent l is lowered (λ x. x.head) s.args.lowest.now s.requires.1.1 e.3,
     )
 
 pub commit_inner_spec : {M : Type 1} → statement M

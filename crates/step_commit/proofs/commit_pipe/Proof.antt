@@ -37,15 +37,15 @@ commit-end-requires c κs =
     let inner = inner_of c.before.before.before.before in
     let s = inner-from inner in
     let u = here s in
-    let kept = inner.commit_inner.kept in (
-      omega (arith, kept.1.1.0, s.requires.0.0.heads_long),
-      omega (arith, kept.1.1.1.0, s.requires.0.0.flows_long),
-      omega (arith, kept.1.1.1.1.0, s.requires.1.0),
-      omega (arith, kept.1.1.1.1.1.0, s.requires.1.1),
+    let kept = inner.commit_inner.auto in (
+      omega (arith, kept.heads, s.requires.0.0.heads_long),
+      omega (arith, kept.flows, s.requires.0.0.flows_long),
+      omega (arith, kept.highest, s.requires.1.0),
+      omega (arith, kept.lowest, s.requires.1.1),
       omega (arith, s.requires.0.2),
     )
 
-add-commit-end : tie.Need-overflow-add-commit-end
+add-commit-end : tie.Need-overflow_add-at
 add-commit-end c = let s = inner-from (before-start (start-stored c)) in omega (arith, s.requires.0.2)
 
 commit-end-requires-2 : tie.Need-commit_end-requires-2
@@ -54,12 +54,12 @@ commit-end-requires-2 c κs =
     let inner = before-start begun in
     let s = inner-from inner in
     let u = here s in
-    let kept = inner.commit_inner.kept in
-    let still = begun.commit_end.kept in (
-      omega (arith, kept.1.1.0, still.1.1.1.0, s.requires.0.0.heads_long),
-      omega (arith, kept.1.1.1.0, still.1.1.1.1.0, s.requires.0.0.flows_long),
-      omega (arith, kept.1.1.1.1.0, still.1.1.1.1.1.0, s.requires.1.0),
-      omega (arith, kept.1.1.1.1.1.0, still.1.1.1.1.1.1.0, s.requires.1.1),
+    let kept = inner.commit_inner.auto in
+    let still = begun.commit_end.auto in (
+      omega (arith, kept.heads, still.heads, s.requires.0.0.heads_long),
+      omega (arith, kept.flows, still.flows, s.requires.0.0.flows_long),
+      omega (arith, kept.highest, still.highest, s.requires.1.0),
+      omega (arith, kept.lowest, still.lowest, s.requires.1.1),
       omega (arith, s.requires.0.2),
     )
 
@@ -69,7 +69,7 @@ returns c =
     let begun = start-stored ended.before.before.before.before.before in
     let inner = before-start begun in
     let s = inner-from inner in
-    whole_pipe s.args.job.now (laid_of s.args.l) s.args.spare.now _ s.args.heads-1.now s.args.flows-1.now s.args.highest-1.now s.args.lowest-1.now
+    whole_pipe s.args.job.now (laid_of s.args.l) s.args.spare.now _ s.args.heads.now s.args.flows.now s.args.highest.now s.args.lowest.now
     (here s).joined.has_reach
     inner.commit_inner.ensures
     begun.commit_end.ensures
