@@ -16,7 +16,7 @@ ran : (c : tie.After-run_on)
     → let a = (entry c).args in
     let l = c.run_on.new.1.1.1 in
     call_leaves (gathered l.0 l.1.0 l.1.1.0 l.1.1.1.0 l.1.1.1.1.0 l.1.1.1.1.1.0 l.1.1.1.1.1.1.0) c.run_on.result
-    ≡ run_on_call a.job.now a.done a.count (lent a.heads-1 a.flows-1 a.highest-1 a.lowest-1 a.speeds-1 a.inflows-1 a.spare-1)
+    ≡ run_on_call a.job.now a.done a.count (lent a.heads a.flows a.highest a.lowest a.speeds a.inflows a.spare)
 ran c = c.run_on.ensures
 
 returns : tie.Need-returns

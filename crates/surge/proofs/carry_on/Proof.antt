@@ -11,8 +11,8 @@ use Rattle.surge.proofs.carry_on.Tie as tie
 -- the rows as the run leaves them
 abbrev ran : tie.After-run-ended → Rows
 ran c =
-    let l = c.run-ended.new.1.1.1 in
-    gathered l.0 l.1.0 l.1.1.0 l.1.1.1.0 l.1.1.1.1.0 l.1.1.1.1.1.0 l.1.1.1.1.1.1.0
+    let l = c.run-ended.new in
+    gathered l.heads l.flows l.highest l.lowest l.speeds l.inflows l.spare
 
 -- the function's entry, and where the run has ended
 abbrev entry : tie.After-run-ended → tie.Start
@@ -25,7 +25,9 @@ ended c =
     highest.before.before.before.before.before
 
 ready : (c : tie.After-run-ended) → Ready (entry c).args.job.now (ran c)
-ready c = ready_kept (ran c) c.run-ended.auto.1.1.1 (entry c).requires.0
+ready c =
+    let l = c.run-ended.auto in
+    ready_kept (ran c) (l.heads, (l.flows, (l.highest, (l.lowest, (l.speeds, (l.inflows, (l.spare, tt))))))) (entry c).requires.0
 
 clear-spare-requires : tie.Need-clear_spare-requires
 clear-spare-requires c κs = let r = ready (ended c) in (r.accepted, spare_long r)

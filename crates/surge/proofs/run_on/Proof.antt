@@ -20,14 +20,14 @@ abbrev entry : tie.After-slice_known-7-1 → tie.Start
 entry c = c.before.before.before.before.before.before.before.before
 
 abbrev rows : tie.After-slice_known-7-1 → Rows
-rows c = let a = (entry c).args in lent a.heads-1 a.flows-1 a.highest-1 a.lowest-1 a.speeds-1 a.inflows-1 a.spare-1
+rows c = let a = (entry c).args in lent a.heads a.flows a.highest a.lowest a.speeds a.inflows a.spare
 
 -- where the questions to a job and 20 are asked, and where 21 and 22 are
 abbrev asked : tie.After-within_limit-limit → tie.After-slice_known-7-1
 asked c = c.before.before.before.before.before
 
 abbrev asked-21 : tie.After-acceptable-fit → tie.After-within_limit-limit
-asked-21 c = c.before.before.before.before.before.before.before
+asked-21 c = c.before
 
 abbrev asked-20 : tie.After-acceptable-fit → tie.After-slice_known-7-1
 asked-20 c = asked (asked-21 c)
@@ -51,7 +51,7 @@ acceptable_is c = c.acceptable-fit.ensures _
 
 acceptable-requires : tie.Need-acceptable-fit-requires
 acceptable-requires c κs =
-    let limit : tie.After-within_limit-limit = c.before.before.before.before.before.before in
+    let limit : tie.After-within_limit-limit = c in
     let o = first_yes (yes-20 limit) in
     let long = enough_each _ _ o.enough in
     ((o.accepted, o.count), (rw o.count (long heads, long flows, long highest, long lowest), pairs_long record { accepted = o.accepted; enough = o.enough }))
@@ -61,7 +61,7 @@ returns : tie.Need-returns-then-not-limit
 returns c =
     let beyond : tie.Then-not-limit = search rules in
     let limit = asked-21 beyond.before in
-    run_beyond _ _ (first_yes (yes-20 limit)) _ _ (is_no limit.within_limit-limit.ensures beyond.if-not-limit.taken)
+    run_beyond _ _ (first_yes (yes-20 limit)) _ _ (is_no limit.within_limit-limit.ensures (ap not beyond.if-not-limit.true))
 
 returns-2 : tie.Need-returns-then-not-fit
 returns-2 c =

@@ -13,7 +13,7 @@ abbrev entry : tie.After-slice_known-7-1 → tie.Start
 entry c = c.before.before.before.before.before.before.before.before
 
 abbrev rows : tie.After-slice_known-7-1 → Rows
-rows c = let a = (entry c).args in lent a.heads-1 a.flows-1 a.highest-1 a.lowest-1 a.speeds-1 a.inflows-1 a.spare-1
+rows c = let a = (entry c).args in lent a.heads a.flows a.highest a.lowest a.speeds a.inflows a.spare
 
 -- the questions to a job and 20 have a yes
 first_yes : (c : tie.In-Accepted-2)

@@ -42,12 +42,12 @@ loop-again : tie.Need-loop-i-preserved invariant-loop decreases-loop
 loop-again c =
     let v = stepped c.before in
     let inv = (turn v).before.loop-i.invariant in
-    let kept = v.one_step-ended.kept.1.1.1.1 in (
+    let kept = v.one_step-ended.auto in (
       as_counted (turn v).before.loop-i.i (omega arith)
-          (way_next _ _ _ _ inv.0 v.one_step-ended.ensures (turn v).loop-i-test.taken kept.1.1.1 (sym c.before.stops.ensures ∙ c.if-stops.false)),
-      kept.0 ∙ inv.1,
-      kept.1.0 ∙ inv.2,
-      kept.1.1.0 ∙ inv.3,
+          (way_next _ _ _ _ inv.0 v.one_step-ended.ensures (turn v).loop-i-test.true (kept.heads, (kept.flows, (kept.highest, (kept.lowest, (kept.speeds, (kept.inflows, (kept.spare, tt))))))) (sym c.before.stops.ensures ∙ c.if-stops.false)),
+      kept.values ∙ inv.1,
+      kept.nodes ∙ inv.2,
+      kept.entering ∙ inv.3,
     )
 
 one-step-requires : tie.Need-one_step-ended-requires invariant-loop decreases-loop
@@ -62,30 +62,30 @@ one-step-requires c κs =
 
 -- the rows that a stop leaves are as long as they were; longer paths than `search` follows
 same-heads : tie.Need-shape_of-heads-then-stops invariant-loop decreases-loop
-same-heads c = let v = stepped c.before in v.one_step-ended.kept.1.1.1.1.1.1.1.0 ∙ (turn v).before.loop-i.invariant.0.sizes.0
+same-heads c = let v = stepped c.before in v.one_step-ended.auto.heads ∙ (turn v).before.loop-i.invariant.0.sizes.0
 
 same-flows : tie.Need-shape_of-flows-then-stops invariant-loop decreases-loop
-same-flows c = let v = stepped c.before in v.one_step-ended.kept.1.1.1.1.1.1.1.1.0 ∙ (turn v).before.loop-i.invariant.0.sizes.1.0
+same-flows c = let v = stepped c.before in v.one_step-ended.auto.flows ∙ (turn v).before.loop-i.invariant.0.sizes.1.0
 
 same-highest : tie.Need-shape_of-highest-then-stops invariant-loop decreases-loop
-same-highest c = let v = stepped c.before in v.one_step-ended.kept.1.1.1.1.1.1.1.1.1.0 ∙ (turn v).before.loop-i.invariant.0.sizes.1.1.0
+same-highest c = let v = stepped c.before in v.one_step-ended.auto.highest ∙ (turn v).before.loop-i.invariant.0.sizes.1.1.0
 
 same-lowest : tie.Need-shape_of-lowest-then-stops invariant-loop decreases-loop
-same-lowest c = let v = stepped c.before in v.one_step-ended.kept.1.1.1.1.1.1.1.1.1.1.0 ∙ (turn v).before.loop-i.invariant.0.sizes.1.1.1.0
+same-lowest c = let v = stepped c.before in v.one_step-ended.auto.lowest ∙ (turn v).before.loop-i.invariant.0.sizes.1.1.1.0
 
 same-speeds : tie.Need-shape_of-speeds-then-stops invariant-loop decreases-loop
-same-speeds c = let v = stepped c.before in v.one_step-ended.kept.1.1.1.1.1.1.1.1.1.1.1.0 ∙ (turn v).before.loop-i.invariant.0.sizes.1.1.1.1.0
+same-speeds c = let v = stepped c.before in v.one_step-ended.auto.speeds ∙ (turn v).before.loop-i.invariant.0.sizes.1.1.1.1.0
 
 same-inflows : tie.Need-shape_of-inflows-then-stops invariant-loop decreases-loop
-same-inflows c = let v = stepped c.before in v.one_step-ended.kept.1.1.1.1.1.1.1.1.1.1.1.1.0 ∙ (turn v).before.loop-i.invariant.0.sizes.1.1.1.1.1.0
+same-inflows c = let v = stepped c.before in v.one_step-ended.auto.inflows ∙ (turn v).before.loop-i.invariant.0.sizes.1.1.1.1.1.0
 
 same-spare : tie.Need-shape_of-spare-then-stops invariant-loop decreases-loop
-same-spare c = let v = stepped c.before in v.one_step-ended.kept.1.1.1.1.1.1.1.1.1.1.1.1.1.0 ∙ (turn v).before.loop-i.invariant.0.sizes.1.1.1.1.1.1.0
+same-spare c = let v = stepped c.before in v.one_step-ended.auto.spare ∙ (turn v).before.loop-i.invariant.0.sizes.1.1.1.1.1.1.0
 
 returns : tie.Need-returns-then-stops invariant-loop decreases-loop
 returns c =
     let v = stepped c.before in
-    way_stop _ _ _ _ (turn v).before.loop-i.invariant.0 v.one_step-ended.ensures (turn v).loop-i-test.taken (sym c.before.stops.ensures ∙ c.if-stops.true)
+    way_stop _ _ _ _ (turn v).before.loop-i.invariant.0 v.one_step-ended.ensures (turn v).loop-i-test.true (sym c.before.stops.ensures ∙ c.if-stops.true)
 
 returns-2 : tie.Need-returns invariant-loop decreases-loop
 returns-2 c = way_done _ _ _ _ c.before.loop-i.invariant.0 c.loop-i-test.false

@@ -21,24 +21,24 @@ abbrev begin : tie.After-slice_known-10-1 → tie.Start
 begin c = c.before.before.before.before.before.before.before.before.before.before.before
 
 abbrev values : tie.After-write_ends → tie.After-values_at
-values c = let lent : tie.After-slice_known-11-1 = c.before.before.before.before.before.before.before in lent.before.before
+values c = let lent : tie.After-slice_known-11-1 = c.before.before.before.before in lent.before.before
 
 abbrev ends : tie.After-check-found → tie.After-write_ends
-ends c = let spare : tie.After-spare-1 = c.before.before.before.before.before in spare.before.before.before.before.before
+ends c = let spare : tie.After-spare-1 = c.before.before in spare.before.before.before.before.before
 
 abbrev start : tie.After-write_ends → tie.Start
 start c = begin (values c).before.before.before.before
 
-abbrev committed : tie.After-write-pairs-arg4 → tie.After-commit
-committed c = let lowest : tie.After-lowest-1 = c.before.before.before.before.before in lowest.before.before.before.before.before.before.before
+abbrev committed : tie.After-write_pairs-arg-2-1 → tie.After-commit
+committed c = let lowest : tie.After-lowest-1 = c.before.before.before in lowest.before.before.before.before.before.before.before
 
 abbrev clear : tie.After-commit → tie.Else-stops
-clear c = c.before.before.before.before.before.before
+clear c = c.before.before.before.before.before
 
 -- the values of this step, from the pairs that the rows hold: said by itself, so that of another step or row the prover tells both
 valued : (c : tie.After-write_ends)
     → let a = (start c).args in
-    OverNodes a.job.now (value_from a.job.now (a.done + 1) a.speeds-1.now a.inflows-1.now) (values c).values_at.new.1.1.1.1.0
+    OverNodes a.job.now (value_from a.job.now (a.done + 1) a.speeds.now a.inflows.now) (values c).values_at.new.values
 valued c = (values c).values_at.ensures
 
 returns : tie.Need-returns-then-stops
@@ -57,11 +57,11 @@ returns-2 c =
     let found : tie.After-check-found = sound.before.before in
     let e = ends found in
     let a = (start e).args in
-    let left = stored.write_pairs.new.1.1.1 in
-    let pairs : PairsLeft a.job.now (values e).values_at.last.1.1.1.1.0 e.write_ends.last.1.1.1.1.1.1.1.0 a.speeds-1.now a.inflows-1.now left.0 left.1.0 =
+    let left = stored.write_pairs.new in
+    let pairs : PairsLeft a.job.now (values e).values_at.new.values e.write_ends.type_inv.entering a.speeds.now a.inflows.now left.speeds left.inflows =
     stored.write_pairs.ensures in
     let scanned = found.check-found.ensures _ e.write_ends.ensures.1 in
-    one_done _ _ _ (start e).requires.0.1 _ (valued e) _ scanned _ e.write_ends.ensures.2 (sym sound.before.stops.ensures ∙ sound.if-stops.left)
+    one_done _ _ _ (start e).requires.0.1 _ (valued e) _ scanned _ e.write_ends.ensures.2 (sym sound.before.stops.ensures ∙ sound.if-stops.false)
     (done.commit.ensures _ e.write_ends.ensures.1) e.write_ends.ensures.0 pairs
 
 -- the three rows for the nodes hold 32 entries, which is enough
@@ -73,24 +73,24 @@ values-at-requires c κs =
 
 write-ends-requires : tie.Need-write_ends-requires
 write-ends-requires c κs =
-    let lent : tie.After-slice_known-11-1 = c.before.before.before.before.before.before in
+    let lent : tie.After-slice_known-11-1 = c.before.before.before in
     let read : tie.After-values_at = lent.before.before in
     let pre = (begin read.before.before.before.before).requires in
     ((pre.0.0, rows_lent pre.0.1, pre.0.3, spare_long pre.0.1), (omega (arith, pre.1.0, read.values_at.auto), pre.1.1, pre.1.2))
 
 -- the spare as the ends leave it is as long as it was
-spare_kept : (c : tie.After-write_ends) → let job = (start c).args.job.now in pipe_count (pipe_table job) * 4 ≤ length c.write_ends.new.1.1.1.1.1.1.1.1.0
-spare_kept c = omega (arith, spare_long (start c).requires.0.1, c.write_ends.auto.1.1.1.1.1.1.1.1.0)
+spare_kept : (c : tie.After-write_ends) → let job = (start c).args.job.now in pipe_count (pipe_table job) * 4 ≤ length c.write_ends.new.spare
+spare_kept c = omega (arith, spare_long (start c).requires.0.1, c.write_ends.auto.spare)
 
 check-requires : tie.Need-check-found-requires
 check-requires c κs =
-    let spare : tie.After-spare-1 = c.before.before.before.before in
+    let spare : tie.After-spare-1 = c.before in
     let e : tie.After-write_ends = spare.before.before.before.before.before in
     (rows_lent (start e).requires.0.1, spare_kept e)
 
 commit-requires : tie.Need-commit-requires
 commit-requires c κs =
-    let sound : tie.Else-stops = c.before.before.before.before.before in
+    let sound : tie.Else-stops = c.before.before.before.before in
     let e = ends sound.before.before in
     let r = (start e).requires.0.1 in
     ((rows_lent r, spare_kept e), (ready_enough r highest, ready_enough r lowest))
@@ -105,7 +105,7 @@ write-pairs-requires c κs =
 same-values : tie.Need-shape_of-values
 same-values c =
     let stored : tie.After-write_pairs = c.before.before.before.before in
-    (values (ends (clear (committed stored.before)).before.before)).values_at.auto.1.1.1.1.0
+    (values (ends (clear (committed stored.before)).before.before)).values_at.auto.values
 
 pub one_step_spec : {M : Type 1} → statement M
 one_step_spec =
