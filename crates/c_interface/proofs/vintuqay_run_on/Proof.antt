@@ -14,8 +14,8 @@ entry c = let lent : tie.After-slice_known-7-1 = c.before.before.before.before.b
 
 ran : (c : tie.After-run_on)
     → let a = (entry c).args in
-    let l = c.run_on.new.1.1.1 in
-    call_leaves (gathered l.0 l.1.0 l.1.1.0 l.1.1.1.0 l.1.1.1.1.0 l.1.1.1.1.1.0 l.1.1.1.1.1.1.0) c.run_on.result
+    let l = c.run_on.new in
+    call_leaves (gathered l.heads l.flows l.highest l.lowest l.speeds l.inflows l.spare) c.run_on.result
     ≡ run_on_call a.job.now a.done a.count (lent a.heads a.flows a.highest a.lowest a.speeds a.inflows a.spare)
 ran c = c.run_on.ensures
 

@@ -34,10 +34,10 @@ returns c =
     let pre = begin.requires in
     let pair = start_drive (job_of begin.args.job.now) in
     let n = node_count (node_table begin.args.job.now) in
-    let left = pairs.start_pairs.last.1 in
+    let left = pairs.start_pairs.new in
     let e = state.write_start.ensures in
-    let speeds : left.0 ≡ fill (λ y. (pair y).speed) begin.args.speeds.now 0 n = pairs.start_pairs.ensures.0 in
-    let inflows : left.1.0 ≡ fill (λ y. (pair y).inflow) begin.args.inflows.now 0 n = pairs.start_pairs.ensures.1 in
+    let speeds : left.speeds ≡ fill (λ y. (pair y).speed) begin.args.speeds.now 0 n = pairs.start_pairs.ensures.0 in
+    let inflows : left.inflows ≡ fill (λ y. (pair y).inflow) begin.args.inflows.now 0 n = pairs.start_pairs.ensures.1 in
     begun _ _ pre.0.accepted pre.1 (ready_enough pre.0) e.0 e.1 e.2 e.3 speeds inflows cleared.clear_spare.ensures
 
 write-start-requires : tie.Need-write_start-requires
