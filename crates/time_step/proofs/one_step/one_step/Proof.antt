@@ -27,7 +27,7 @@ abbrev ends : tie.After-check-found → tie.After-write_ends
 ends c = let spare : tie.After-spare-1 = c.before.before in spare.before.before.before.before.before
 
 abbrev start : tie.After-write_ends → tie.Start
-start c = begin (values c).before.before.before.before
+start c = begin (values c).before.before
 
 abbrev committed : tie.After-write_pairs-arg-2-1 → tie.After-commit
 committed c = let lowest : tie.After-lowest-1 = c.before.before.before in lowest.before.before.before.before.before.before.before
@@ -58,7 +58,7 @@ returns-2 c =
     let e = ends found in
     let a = (start e).args in
     let left = stored.write_pairs.new in
-    let pairs : PairsLeft a.job.now (values e).values_at.new.values e.write_ends.type_inv.entering a.speeds.now a.inflows.now left.speeds left.inflows =
+    let pairs : PairsLeft a.job.now (values e).values_at.new.values e.write_ends.new.entering a.speeds.now a.inflows.now left.speeds left.inflows =
     stored.write_pairs.ensures in
     let scanned = found.check-found.ensures _ e.write_ends.ensures.1 in
     one_done _ _ _ (start e).requires.0.1 _ (valued e) _ scanned _ e.write_ends.ensures.2 (sym sound.before.stops.ensures ∙ sound.if-stops.false)
@@ -67,7 +67,7 @@ returns-2 c =
 -- the three rows for the nodes hold 32 entries, which is enough
 values-at-requires : tie.Need-values_at-requires
 values-at-requires c κs =
-    let pre = (begin c.before.before.before).requires in
+    let pre = (begin c.before).requires in
     let r = pre.0.1 in
     ((r.accepted, search rules, omega (arith, few_nodes _ r.accepted, pre.1.0)), pairs_long r)
 
@@ -75,7 +75,7 @@ write-ends-requires : tie.Need-write_ends-requires
 write-ends-requires c κs =
     let lent : tie.After-slice_known-11-1 = c.before.before.before in
     let read : tie.After-values_at = lent.before.before in
-    let pre = (begin read.before.before.before.before).requires in
+    let pre = (begin read.before.before).requires in
     ((pre.0.0, rows_lent pre.0.1, pre.0.3, spare_long pre.0.1), (omega (arith, pre.1.0, read.values_at.auto), pre.1.1, pre.1.2))
 
 -- the spare as the ends leave it is as long as it was
