@@ -24,7 +24,7 @@ rows c = let a = (entry c).args in lent a.heads a.flows a.highest a.lowest a.spe
 
 -- where the questions to a job and 20 are asked, and where 21 and 22 are
 abbrev asked : tie.After-within_limit-limit → tie.After-slice_known-7-1
-asked c = c.before.before.before.before.before
+asked c = c.before.before.before
 
 abbrev asked-21 : tie.After-acceptable-fit → tie.After-within_limit-limit
 asked-21 c = c.before
@@ -33,12 +33,12 @@ abbrev asked-20 : tie.After-acceptable-fit → tie.After-slice_known-7-1
 asked-20 c = asked (asked-21 c)
 
 -- the questions to a job and 20 have a yes
-first_yes : (c : tie.In-Accepted-2)
-    → let first : tie.After-read_and_enough-read = c.before.before in Opened (entry first.before).args.job.now (rows first.before) c.in-Accepted.sections
-first_yes c = opened _ _ _ _ (ap paper_read (sym c.in-Accepted.is) ∙ c.before.before.read_and_enough-read.ensures)
+first_yes : (c : tie.In-Accepted)
+    → let first : tie.After-read_and_enough-read = c.before in Opened (entry first.before).args.job.now (rows first.before) c.in-Accepted.sections
+first_yes c = opened _ _ _ _ (ap paper_read (sym c.in-Accepted.is) ∙ c.read_and_enough-read.ensures)
 
-abbrev yes-20 : tie.After-within_limit-limit → tie.In-Accepted-2
-yes-20 c = c.before.before
+abbrev yes-20 : tie.After-within_limit-limit → tie.In-Accepted
+yes-20 c = c.before
 
 -- the yes to question 21
 within : (c : tie.Else-not-limit) → within_limit (entry (asked-20 c.before)).args.done (entry (asked-20 c.before)).args.count ≡ true
@@ -75,7 +75,7 @@ carry-on-requires c κs =
     (record { accepted = o.accepted; enough = o.enough }, limit_kept _ _ (within sound.before))
 
 returns-3 : tie.Need-returns-in-Refused
-returns-3 c = run_refused _ _ _ _ _ (ap paper_read (sym c.in-Refused.is) ∙ c.before.before.before.read_and_enough-read.ensures)
+returns-3 c = run_refused _ _ _ _ _ (ap paper_read (sym c.in-Refused.is) ∙ c.read_and_enough-read.ensures)
 
 returns-4 : tie.Need-returns-else-not-fit
 returns-4 c =

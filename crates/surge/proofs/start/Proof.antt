@@ -16,17 +16,17 @@ abbrev rows : tie.After-slice_known-7-1 → Rows
 rows c = let a = (entry c).args in lent a.heads a.flows a.highest a.lowest a.speeds a.inflows a.spare
 
 -- the questions to a job and 20 have a yes
-first_yes : (c : tie.In-Accepted-2)
-    → let asked : tie.After-read_and_enough-read = c.before.before in Opened (entry asked.before).args.job.now (rows asked.before) c.in-Accepted.sections
-first_yes c = opened _ _ _ _ (ap paper_read (sym c.in-Accepted.is) ∙ c.before.before.read_and_enough-read.ensures)
+first_yes : (c : tie.In-Accepted)
+    → let asked : tie.After-read_and_enough-read = c.before in Opened (entry asked.before).args.job.now (rows asked.before) c.in-Accepted.sections
+first_yes c = opened _ _ _ _ (ap paper_read (sym c.in-Accepted.is) ∙ c.read_and_enough-read.ensures)
 
 begin-requires : tie.Need-begin-requires
 begin-requires c κs =
-    let o = first_yes c.before.before.before.before.before.before.before.before in
+    let o = first_yes c.before.before.before.before.before.before.before in
     (record { accepted = o.accepted; enough = o.enough }, o.count)
 
 returns : tie.Need-returns-in-Refused
-returns c = start_refused _ _ _ (ap paper_read (sym c.in-Refused.is) ∙ c.before.before.before.read_and_enough-read.ensures)
+returns c = start_refused _ _ _ (ap paper_read (sym c.in-Refused.is) ∙ c.read_and_enough-read.ensures)
 
 returns-2 : tie.Need-returns-in-Accepted
 returns-2 c =
@@ -34,7 +34,7 @@ returns-2 c =
     let highest : tie.After-highest-1 = speeds.before.before.before.before in
     let begun : tie.After-begin = highest.before.before.before.before.before in
     let told : tie.In-Accepted = begun.before.before.before.before.before.before.before.before in
-    begun.begin.ensures ∙ sym (start_ran _ _ (first_yes told.before))
+    begun.begin.ensures ∙ sym (start_ran _ _ (first_yes told))
 
 pub start_spec : {M : Type 1} → statement M
 start_spec =
