@@ -6,11 +6,11 @@ use Rattle.c_interface.proofs.vintuqay_read.Tie as tie
 
 refused : tie.Need-returns-in-Refused
 unfolding packed_read
-refused c = rw (← c.before.before.before.before.read-read.ensures, c.in-Refused.is) c.pack.ensures
+refused c = rw (← c.read-read.ensures, c.in-Refused.is) c.pack.ensures
 
 accepted : tie.Need-returns-in-Accepted
 unfolding packed_read
-accepted c = rw (← c.before.before.before.before.read-read.ensures, c.in-Accepted.is) c.pack-in-Accepted.ensures
+accepted c = rw (← c.read-read.ensures, c.in-Accepted.is) c.pack-in-Accepted.ensures
 
 pub vintuqay_read_spec : {M : Type 1} → statement M
 vintuqay_read_spec =

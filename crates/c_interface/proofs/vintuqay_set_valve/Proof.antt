@@ -8,27 +8,20 @@ use Rattle.c_interface.proofs.Parts.{packed_setting_lem}
 use Rattle.c_interface.proofs.vintuqay_set_valve.Statement.{statement}
 use Rattle.c_interface.proofs.vintuqay_set_valve.Tie as tie
 
--- where the valve has been set
-abbrev set : tie.After-slice_known-4-1 → tie.After-set_valve-setting
-set c = c.before.before.before.before
-
 refused : tie.Need-returns-in-Refused
 unfolding packed_setting coefficient_left
 refused c =
-    let told : tie.In-Refused-2 = c.before.before in
-    packed_setting_lem _ (set told.before.before).set_valve-setting.ensures (ap paper_setting told.in-Refused.is) c.pack.ensures refl
+    packed_setting_lem _ c.set_valve-setting.ensures (ap paper_setting c.in-Refused.is) c.pack.ensures refl
 
 none : tie.Need-returns-in-Nothing
 unfolding packed_setting coefficient_left
 none c =
-    let told : tie.In-Nothing = c.before in
-    packed_setting_lem _ (set told.before.before).set_valve-setting.ensures (ap paper_setting told.in-Nothing.is) c.pack-in-Nothing.ensures refl
+    packed_setting_lem _ c.set_valve-setting.ensures (ap paper_setting c.in-Nothing.is) c.pack-in-Nothing.ensures refl
 
 given : tie.Need-returns-in-Coefficient
 unfolding packed_setting coefficient_left
 given c =
-    let told : tie.In-Coefficient-2 = c.before.before in
-    packed_setting_lem _ (set told.before.before).set_valve-setting.ensures (ap paper_setting told.in-Coefficient.is) c.pack-in-Coefficient.ensures refl
+    packed_setting_lem _ c.set_valve-setting.ensures (ap paper_setting c.in-Coefficient.is) c.pack-in-Coefficient.ensures refl
 
 pub vintuqay_set_valve_spec : {M : Type 1} → statement M
 vintuqay_set_valve_spec =
