@@ -91,7 +91,8 @@ returns-4 c h =
     let one : tie.After-fault_one-last invariant-loop decreases-loop = c.before.before in
     let s = c.args.s in
     let i = c.loop-i.i in
-    let two = counting_more _ (counted_one one) (omega arith) (adds _ (pipe one) s (i + 1) (second_cp (pipe one) s i c.loop-i.invariant.1) c.fault_one.ensures.1) in
+    let e = adds _ (pipe one) s (i + 1) (second_cp (pipe one) s i c.loop-i.invariant.1) c.fault_one.ensures.1 in
+    let two = counting_more _ (counted_one one) (omega arith) e in
     sym (counting_done _ two (omega arith)) ∙ h
 
 pub quick_spec : {M : Type 1} → statement M
