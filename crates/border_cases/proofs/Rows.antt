@@ -22,7 +22,7 @@ use Rattle.recurrence.proofs.AllDefinitions.{opened}
 use Rattle.recurrence.proofs.EachRow.{each}
 use Rattle.recurrence.proofs.SharpInflow.{inflow_sharp}
 use Rattle.border_cases.specs.Jobs.{opening, parting, parting_late, parting_low}
-use Rattle.border_cases.specs.RowCases.{calls_from, other_calls_from, held, other_held, pump_calls, other_pump_calls, pump_held, other_pump_held, last_entry, Met, RowCases, TiedCases, ContinuedCases}
+use Rattle.border_cases.specs.RowCases.{calls_from, other_calls_from, other_held, pump_calls, other_pump_calls, pump_held, other_pump_held, last_entry, Met, RowCases, TiedCases, ContinuedCases}
 use Rattle.border_cases.proofs.Stops.{late_edited, low_edited}
 use Rattle.border_cases.proofs.Nodes.{rising_edited, two_nodes, another}
 

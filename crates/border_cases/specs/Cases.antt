@@ -16,7 +16,7 @@ use Rattle.recurrence.specs.Demand.{AlikeBut, AlikeBefore, Carried, seen_by}
 use Rattle.recurrence.specs.Figures.{job_q_rising}
 use Rattle.recurrence.specs.OwnFigures.{◌are◌}
 use Rattle.recurrence.specs.TrippedJobs.{tripped, tripped_rising}
-use Rattle.border_cases.specs.Jobs.{job_q_opening, parting, parting_late, parting_low, failing, failing_late, drained, drained_then_high, mains_level, first_higher, second_higher, series_level, series_higher, tripped_slower, tripped_higher, pumping_slower, in_three, after_refusal}
+use Rattle.border_cases.specs.Jobs.{job_q_opening, parting, parting_late, parting_low, failing_late, drained, drained_then_high, mains_level, first_higher, second_higher, series_level, series_higher, tripped_slower, tripped_higher, pumping_slower, in_three, after_refusal}
 
 -- ---- the jobs as they are read: levels of a reservoir, openings of a valve, speeds of a pump and its record
 

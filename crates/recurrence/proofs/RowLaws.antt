@@ -8,7 +8,7 @@ use mathlib.Core.List.{List, [], ◌∷◌, ◌++◌, foldr, map}
 use Prim.Native.Nat.{ℕ, ◌≤◌, ◌<◌}
 use native.Mathlib.Omega.{arith}
 use lib.Dec.{leb}
-use lib.ListN.{length, get_or, take, drop, replicate, take-append-drop, length-map, length-replicate, get_or-map}
+use lib.ListN.{length, get_or, take, drop, take-append-drop, length-map, length-replicate, get_or-map}
 use lib.Seq.{ext_get_or, get_or-take, take_at}
 use lib.Ieee.{Float}
 use borrow.Author.Tests.{leb-true, le-leb}

@@ -12,7 +12,7 @@ use Rattle.job.specs.Format.{job_of}
 use Rattle.job.specs.Questions.{refusal}
 use Rattle.recurrence.specs.State.{start_point, start_drive, start_state}
 use Rattle.recurrence.specs.Scan.{not_finite, parted, cause_number}
-use Rattle.recurrence.specs.Run.{Run, Result, refused, ran, Ending, completed, stop, stop_answer, answer_of, ask, started, start, steps, run_on, left_by, played_from, played, answers_from, answers}
+use Rattle.recurrence.specs.Run.{Run, Result, refused, ran, Ending, completed, stop, stop_answer, answer_of, ask, started, start, run_on, left_by, played_from, played, answers_from, answers}
 use Rattle.recurrence.specs.Calls.{Rows, enough_lent, state_in, rows_after, read_first, called, start_result, start_call, run_on_result, run_on_call}
 use Rattle.recurrence.specs.Lent.{LentCall, Held, is_refusal, Started, held_at_start, answer_at, held_after, held_from, answers_to, held_by, answers_by, SameUpTo, Chained, call_of, Holds, CallsTied}
 use Rattle.loops.proofs.Listed.{length-listed}

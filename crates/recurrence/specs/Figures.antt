@@ -6,7 +6,7 @@ use Rattle.root.specs.Figures.{P10}
 use Rattle.wave.specs.Figures.{BenchFigures, ◌is◌, num}
 use Rattle.job.specs.JobQ.{job_q}
 use Rattle.job.specs.SixPairs.{job_q_long_counts}
-use Rattle.recurrence.specs.Run.{Answer, steps}
+use Rattle.recurrence.specs.Run.{Answer}
 use Rattle.recurrence.specs.Calls.{heads, flows, Rows, gathered, Called, start_call, run_on_call}
 
 -- ---- jobs of bytes, from job Q's
