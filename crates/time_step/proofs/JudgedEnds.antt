@@ -21,7 +21,7 @@ use Rattle.job.specs.Job.{Job, Kind, junction, reservoir, valve, pump, Laid, lai
 use Rattle.recurrence.specs.State.{Point, Drive, State, no_drive, point_at, drive_at, drive_of}
 use Rattle.recurrence.specs.Step.{AlongPipes, along_pipes, value_at, nodes_with, sums_at, head_at, new_drive, Place, nowhere, place, located, k_at_start, k_at_finish, at_start, at_finish, between, end_to_end, new_in, new_at, updated, new_point, advanced}
 use Rattle.recurrence.specs.Scan.{finite_point, finite_drive, driven_at, fault_of}
-use Rattle.recurrence.proofs.LaidPipes.{Found, FoundAt, located_found}
+use Rattle.recurrence.proofs.LaidPipes.{FoundAt, located_found}
 use Rattle.recurrence.proofs.StepLaws.{advanced_at, driven_at_lem}
 use Rattle.section.specs.Faults.{fault_with}
 use Rattle.node_sums.specs.FromRows.{pair_finite, for_ends}
