@@ -1,7 +1,7 @@
 // Standard input, read to its end or until a slice is full. A read that fails is told from the end.
 ghost use Rattle.std.specs.Prelude.{◌≤◌, length};
 
-use libc::STDIN_FILENO;
+use std::io::{Read, Stdin};
 
 // How many bytes were put at the front of a slice, and whether a read failed.
 #[derive(Clone, Copy)]
@@ -11,24 +11,28 @@ pub struct Input {
 }
 
 // One read.
-fn read_some(part: &mut [u8]) -> Input
+fn read_some(input: &mut Stdin, part: &mut [u8]) -> Input
     ensures { result.count ≤ length part.new }
 {
-    let got = libc::read(STDIN_FILENO, part);
-    let count = io::count(got, part);
-    Input {
-        count,
-        failed: got < 0,
+    match input.read(part) {
+        Ok(count) => Input {
+            count,
+            failed: false,
+        },
+        Err(_) => Input {
+            count: 0,
+            failed: true,
+        },
     }
 }
 
 // Reads until `bytes` is full, the input ends or a read fails.
-pub fn read_all(bytes: &mut [u8]) -> Input
+pub fn read_all(input: &mut Stdin, bytes: &mut [u8]) -> Input
     ensures { result.count ≤ length bytes.new }
 {
     let mut at = 0;
     while at < bytes.len() {
-        let more = read_some(&mut bytes[at..]);
+        let more = read_some(input, &mut bytes[at..]);
         if more.failed {
             return Input {
                 count: 0,

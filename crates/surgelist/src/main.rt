@@ -1,13 +1,20 @@
 // surgelist: reads one job from standard input, runs its steps and prints the listing.
 #![tactic(auto)]
 
+ghost use Rattle.std.specs.Prelude.{OnOk};
+ghost use Rattle.std.specs.Io.KnownBytes.{Appends};
+ghost use Rattle.surgelist.specs.ListingOf.{listing_of};
+
 mod input;
 mod listing_of;
 
-use libc::{STDERR_FILENO, STDOUT_FILENO};
+use std::io;
+use std::io::Write;
 
 // Prints the listing of a job, in one piece.
-fn print_listing(job: &[u8]) {
+fn print_listing<W: Write>(output: &mut W, job: &[u8]) -> io::Result<()>
+    ensures { OnOk result (Appends (W.contents output.old) (W.contents output.new) (listing_of job.now)) }
+{
     let mut heads = [0.0f64; 512];
     let mut flows = [0.0f64; 512];
     let mut highest = [0.0f64; 512];
@@ -27,25 +34,17 @@ fn print_listing(job: &[u8]) {
         &mut spare,
         &mut text,
     );
-    if !io::write_all(STDOUT_FILENO, &text[0..n]) {
-        io::write_all(
-            STDERR_FILENO,
-            b"surgelist: the listing could not be written whole\n",
-        );
-    }
+    output.write_all(&text[0..n])
 }
 
 // A byte more than a job may have is read, so that a longer one shows.
-fn main() {
+fn main(rt: HostRuntime) {
     let mut bytes = [0u8; 32769];
-    let input = input::read_all(&mut bytes);
+    let input = input::read_all(&mut rt.stdin(), &mut bytes);
     let n = input.count;
     if input.failed {
-        io::write_all(
-            STDERR_FILENO,
-            b"surgelist: standard input could not be read\n",
-        );
-    } else {
-        print_listing(&bytes[0..n]);
+        let _ = eprintln!(rt; "surgelist: standard input could not be read");
+    } else if print_listing(&mut rt.stdout(), &bytes[0..n]).is_err() {
+        let _ = eprintln!(rt; "surgelist: the listing could not be written whole");
     }
 }
