@@ -1,5 +1,5 @@
-/* Vintuqay for programs in C: the proved calls of the static library that `rt staticlib c_interface`
- * writes to target/staticlib/libc_interface.a (x86-64 Linux).
+/* Vintuqay for programs in C: the proved calls of the static library that `rt lib` in crates/c_interface
+ * writes to crates/c_interface/out/libc_interface.a (x86-64 Linux).
  *
  * A slice is a pointer and a count of its elements; `job` is only read. An empty slice may have any
  * pointer. Nothing is kept after a call returns.
