@@ -60,7 +60,7 @@ turn c = (counted c).before.before
 asked :
     (c : tie.After-schedule_fits invariant-loop decreases-loop)
     → let tables = (start (turn c)).args in
-      c.schedule_fits.result ≡ schedule_fits tables.nodes.now tables.counts.now tables.schedules.now (turn c).loop-node.node
+    c.schedule_fits.result ≡ schedule_fits tables.nodes.now tables.counts.now tables.schedules.now (turn c).loop-node.node
 unfolding schedule_fits
 asked c = rw (← c.before.kind.ensures.0, ← (counted c).schedule_count-count.ensures.0, ← (turn c).loop-node.invariant.0.sum) c.schedule_fits.ensures
 
