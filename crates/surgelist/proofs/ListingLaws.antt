@@ -6,7 +6,7 @@ use mathlib.Core.Bool.{true}
 use mathlib.Core.List.{List, ◌++◌}
 use Prim.Native.Nat.{ℕ, zero, suc, ◌<◌}
 use native.Mathlib.Omega.{arith}
-use lib.Ieee.{Float, nan}
+use lib.Ieee.{nan}
 use borrow.Author.Tests.{ne_eqb}
 use Rattle.fields.specs.Real.{zero64}
 use Rattle.job.specs.Job.{Job, sections}
@@ -15,7 +15,7 @@ use Rattle.job.specs.Questions.{refusal, steps_fit, Accepted}
 use Rattle.job.proofs.Accepted.{tables_right, pipe_limits, node_limits, section_limit}
 use Rattle.recurrence.specs.State.{point_at, start_state}
 use Rattle.recurrence.specs.Run.{refused, ran, Answer, answer_of, ask, within_limit, started, start, run_on}
-use Rattle.recurrence.specs.Calls.{heads, flows, highest, lowest, Rows, gathered, enough_lent, point_in, state_in, rows_of, rows_after, Called, read_first, called, start_result, start_call, run_on_result, run_on_call}
+use Rattle.recurrence.specs.Calls.{heads, flows, highest, lowest, Rows, enough_lent, point_in, state_in, rows_of, rows_after, Called, read_first, called, start_result, start_call, run_on_result, run_on_call}
 use Rattle.recurrence.proofs.Runs.{Sized, RanSteps, steps_ran}
 use Rattle.recurrence.proofs.EachRow.{each}
 use Rattle.recurrence.proofs.RowLaws.{each_enough, holds_point, holds_state, rows_hold_lem}
@@ -45,10 +45,6 @@ row_point r long s l =
     rw (a, b, c, d)
 
 -- ---- what is written
-
--- the rows that a call leaves, as its place in a proof has them
-abbrev pub rows_left : {X : Type 0} → List Float × (List Float × (List Float × (List Float × (List Float × (List Float × (List Float × X)))))) → Rows
-rows_left l = gathered l.0 l.1.0 l.1.1.0 l.1.1.1.0 l.1.1.1.1.0 l.1.1.1.1.1.0 l.1.1.1.1.1.1.0
 
 -- one text at the front of a slice is another, where the two are equal
 pub front_is : {t u held left : List ℕ} {n : ℕ} → AtFront t held n left → t ≡ u → AtFront u held n left
