@@ -125,7 +125,7 @@ module _ (job : List ℕ) (x k m y : ℕ) where
 
 no_pump_lem : (m : ℕ) → ¬ FirstEntry (job_of tripped) 1 1 m 1
 unfolding opened tripping
-no_pump_lem m e = e.a_pump_figure
+no_pump_lem m e = e.is_a_pump
 
 pub node_cases : Claim → NodeCases
 unfolding BothDo

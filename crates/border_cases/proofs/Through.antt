@@ -31,22 +31,22 @@ level (suc (suc (suc s))) = 2
 -- a pipe of one reach, from its node to the next
 record OneReach (l : Laid) : Type 0 where
   pub reaches : l.pipe.reaches ≡ 1
-  pub at_start_figure : level l.first_section ≡ l.pipe.start
-  pub at_finish_figure : level (l.first_section + 1) ≡ l.pipe.finish
+  pub at_the_start : level l.first_section ≡ l.pipe.start
+  pub at_the_finish : level (l.first_section + 1) ≡ l.pipe.finish
   pub next : l.pipe.finish ≡ suc l.pipe.start
 
 one_reach : (p : ℕ) (l : Laid) → get_elem? series p ≡ some l → OneReach l
 unfolding opened in_series level
-one_reach zero l e = rw (← (some-injective _ _ e)) record { reaches = refl; at_start_figure = refl; at_finish_figure = refl; next = refl }
-one_reach (suc zero) l e = rw (← (some-injective _ _ e)) record { reaches = refl; at_start_figure = refl; at_finish_figure = refl; next = refl }
+one_reach zero l e = rw (← (some-injective _ _ e)) record { reaches = refl; at_the_start = refl; at_the_finish = refl; next = refl }
+one_reach (suc zero) l e = rw (← (some-injective _ _ e)) record { reaches = refl; at_the_start = refl; at_the_finish = refl; next = refl }
 one_reach (suc (suc p)) l e = absurd (some-ne-none l (sym e))
 
 -- the level of a section of a pipe, by which end it is
 start_level : (l : Laid) (s : ℕ) → OneReach l → s ≡ l.first_section → level s ≡ l.pipe.start
-start_level l s o h = ap level h ∙ o.at_start_figure
+start_level l s o h = ap level h ∙ o.at_the_start
 
 finish_level : (l : Laid) (s : ℕ) → OneReach l → s ≡ l.first_section + 1 → level s ≡ l.pipe.finish
-finish_level l s o h = ap level h ∙ o.at_finish_figure
+finish_level l s o h = ap level h ∙ o.at_the_finish
 
 end_level : (y s : ℕ) → EndAt series y s → level s ≡ y
 end_level y s (starts_at p l e q h) = start_level l s (one_reach p l e) h ∙ q

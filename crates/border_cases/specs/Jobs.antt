@@ -122,7 +122,7 @@ series_level = in_series at1
 abbrev pub series_higher : List ℕ
 series_higher = in_series at2
 
--- ---- a pump two reaches from a reservoir (`tripping`), beside `tripped` and `trippedRising`: its first entry 1/2; the reservoir at 10 from the first step on
+-- ---- a pump two reaches from a reservoir (`tripping`), beside `tripped` and `tripped_rising`: its first entry 1/2; the reservoir at 10 from the first step on
 
 abbrev pub tripped_slower : List ℕ
 tripped_slower = tripping 2 (half ∷ []) (at8 ∷ [])

@@ -127,7 +127,7 @@ div_not_below f (fin true zero e) (fin false (suc n) d) p q =
     let c : 0 < suc n * up d * down e = mul-pos (mul-pos (omega arith) (up_pos d)) (down_pos e) in
     rw (eqb-suc-zero n, zero-mul (up e), zero-mul (down d), round_none f true (suc n * up d * down e) c) refl
 
--- R·Q·Q / S is not below zero where R is not and Q and S are above it: so is R-as-Q, then R·Q·Q, then the quotient.
+-- R·Q·Q / S is not below zero where R is not and Q and S are above it: so is R·Q, then R·Q·Q, then the quotient.
 pub drop_not_below : (R Q S : Float) → lt R zero64 ≡ false → lt zero64 Q ≡ true → lt zero64 S ≡ true → lt (((R ⊠ Q) ⊠ Q) ⊘ S) zero64 ≡ false
 unfolding of_bits
 drop_not_below R Q S r q s =

@@ -39,7 +39,7 @@ finite_rundown trips i h =
 -- what question 53 asks of record i
 pub record GoodTrip (nodes trips : List ℕ) (i : ℕ) : Type 0 where
   pub present : (trip_in trips i).node < node_count nodes
-  pub a_pump_figure : kind_number nodes (trip_in trips i).node ≡ 3
+  pub is_a_pump : kind_number nodes (trip_in trips i).node ≡ 3
   pub first : first_of_node trips i ≡ true
   pub rundown : rundown_fits (trip_in trips i) ≡ true
 
@@ -50,7 +50,7 @@ trip_good nodes trips i h =
     let asked = both (is_pump nodes node && first_of_node trips i) (rundown_fits (trip_in trips i)) h in
     let named = both (is_pump nodes node) (first_of_node trips i) asked.0 in
     let pumps = both (ltb node (node_count nodes)) (eqb (kind_number nodes node) 3) named.0 in
-    record { present = ltb-true _ _ pumps.0; a_pump_figure = eqb-true _ _ pumps.1; first = named.1; rundown = asked.1 }
+    record { present = ltb-true _ _ pumps.0; is_a_pump = eqb-true _ _ pumps.1; first = named.1; rundown = asked.1 }
 
 module _ (job : List ℕ) (h : Accepted job) where
   pub trips_length : length (job_of job).trips ≡ trip_count (trip_table job)

@@ -69,9 +69,9 @@ pub fn write_line(
 }
 
 // The line call: the part of `out` that holds the section's line, newline included; an empty part
-// for question 24's no. It begins where `out` begins. No clause can speak of a `&mut` slice after a
-// part of it is handed back, so that the bytes after the part keep what they held is said by the
-// contract of `write_line`, which this calls, and tested of `line` itself by the program `line_bytes`.
+// for question 24's no. It begins where `out` begins. Its clauses do not speak of `out` after a part of
+// it is handed back: that the bytes after the part keep what they held is said by the contract of
+// `write_line`, which this calls, and tested of `line` itself by the program `line_bytes`.
 pub fn line<'a>(
     section: usize,
     head: f64,

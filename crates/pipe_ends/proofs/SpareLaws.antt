@@ -63,17 +63,17 @@ module _ (l : List Float) (at : ℕ) (x y : Float) where
 
 module _ (job : List ℕ) (heads flows : List Float) where
   pub k_none : (spare : List Float) → KTo job heads flows spare 0
-  k_none spare = record { at_start_figure = none_of job _; at_finish_figure = none_of job _ }
+  k_none spare = record { at_the_start = none_of job _; at_the_finish = none_of job _ }
 
   pub k_more :
       (spare : List Float) (m : ℕ) (l : Laid) (x y : Float) → m * 4 + 4 ≤ length spare → KTo job heads flows spare m → LaidAt job m l
       → x ≡ k_at_start (along_rows job heads flows) l → y ≡ k_at_finish (along_rows job heads flows) l → KTo job heads flows (with_k spare (m * 4) x y) (m + 1)
   k_more spare m l x y room u is ex ey =
       record {
-        at_start_figure =
-            one_more job _ m (λ p h o at. k_before spare (m * 4) x y (p * 4 + 1) (omega arith) ∙ u.at_start_figure p h o at) l is (k_start spare (m * 4) x y room ∙ ex);
-        at_finish_figure =
-            one_more job _ m (λ p h o at. k_before spare (m * 4) x y (p * 4 + 3) (omega arith) ∙ u.at_finish_figure p h o at) l is (k_finish spare (m * 4) x y room ∙ ey);
+        at_the_start =
+            one_more job _ m (λ p h o at. k_before spare (m * 4) x y (p * 4 + 1) (omega arith) ∙ u.at_the_start p h o at) l is (k_start spare (m * 4) x y room ∙ ex);
+        at_the_finish =
+            one_more job _ m (λ p h o at. k_before spare (m * 4) x y (p * 4 + 3) (omega arith) ∙ u.at_the_finish p h o at) l is (k_finish spare (m * 4) x y room ∙ ey);
       }
 
 pub k_rest : (before spare : List Float) (m : ℕ) (x y : Float) → drop (m * 4) spare ≡ drop (m * 4) before
@@ -142,7 +142,7 @@ module _ (l : List Float) (at : ℕ) (start finish : HeadFlow) where
 
 module _ (job : List ℕ) (nodes before : List Float) where
   pub ends_none : (spare : List Float) → EndsByKTo job nodes before spare 0
-  ends_none spare = record { at_start_figure = none_of job _; at_finish_figure = none_of job _ }
+  ends_none spare = record { at_the_start = none_of job _; at_the_finish = none_of job _ }
 
   module _ (spare : List Float) (m : ℕ) (l : Laid) {new : List Float} (same : drop (m * 4) spare ≡ drop (m * 4) before)
       (is : new ≡ with_ends spare (m * 4) (start_by nodes spare m l) (finish_by nodes spare m l)) where
@@ -153,11 +153,11 @@ module _ (job : List ℕ) (nodes before : List Float) where
         let finish = finish_by nodes spare m l in
         rw is
         (record {
-          at_start_figure =
-              one_more job _ m (λ p h o at. end_before spare (m * 4) start finish (p * 4) (omega arith) ∙ u.at_start_figure p h o at) l here
+          at_the_start =
+              one_more job _ m (λ p h o at. end_before spare (m * 4) start finish (p * 4) (omega arith) ∙ u.at_the_start p h o at) l here
               (start_is spare (m * 4) start finish room ∙ rw (read_later before spare (m * 4) same 1 nan));
-          at_finish_figure =
-              one_more job _ m (λ p h o at. end_before spare (m * 4) start finish (p * 4 + 2) (omega arith) ∙ u.at_finish_figure p h o at) l here
+          at_the_finish =
+              one_more job _ m (λ p h o at. end_before spare (m * 4) start finish (p * 4 + 2) (omega arith) ∙ u.at_the_finish p h o at) l here
               (finish_is spare (m * 4) start finish room ∙ rw (read_later before spare (m * 4) same 3 nan));
         })
 
@@ -176,10 +176,10 @@ unfolding at_start at_finish
 ends_in job ok nodes heads flows is ks ends =
     let head = is.at in
     record {
-      at_start_figure = λ p l at.
+      at_the_start = λ p l at.
           let here = within job ok p l at in
-          ends.at_start_figure p here.present l at ∙ rw (ks.at_start_figure p here.present l at, head l.pipe.start here.joined.start_present);
-      at_finish_figure = λ p l at.
+          ends.at_the_start p here.present l at ∙ rw (ks.at_the_start p here.present l at, head l.pipe.start here.joined.start_present);
+      at_the_finish = λ p l at.
           let here = within job ok p l at in
-          ends.at_finish_figure p here.present l at ∙ rw (ks.at_finish_figure p here.present l at, head l.pipe.finish here.joined.finish_present);
+          ends.at_the_finish p here.present l at ∙ rw (ks.at_the_finish p here.present l at, head l.pipe.finish here.joined.finish_present);
     }

@@ -147,10 +147,10 @@ pub record JudgedAt (j : Job) (y s : ℕ) : Type 0 where
   pub below : s < sections j
   pub driven : (st : State) → driven_at st (located (laid j) s) ≡ drive_at st y
 
-at_finish_figure : {A : Type 0} (n : ℕ) (start finish : A) (inside : ℕ → A) → 1 ≤ n → end_to_end n start finish inside n ≡ finish
+at_the_finish : {A : Type 0} (n : ℕ) (start finish : A) (inside : ℕ → A) → 1 ≤ n → end_to_end n start finish inside n ≡ finish
 unfolding end_to_end
-at_finish_figure zero a b f h = absurd (omega arith)
-at_finish_figure (suc n) a b f h = rw (eq-eqb (suc n) (suc n) refl)
+at_the_finish zero a b f h = absurd (omega arith)
+at_the_finish (suc n) a b f h = rw (eq-eqb (suc n) (suc n) refl)
 
 judged_at : (job : List ℕ) → Accepted job → (y : ℕ) → y < length (job_of job).nodes → (s : ℕ) × JudgedAt (job_of job) y s
 unfolding ends_at driven_at end_to_end
@@ -170,7 +170,7 @@ judged_at job ok y l =
     go p l e false q true r h =
         let j = job_of job in (
           l.first_section + l.pipe.reaches,
-          record { below = laid_below j p l e; driven = λ st. rw (laid_located j p l l.pipe.reaches e (omega arith)) (at_finish_figure l.pipe.reaches _ _ _ (accepted_reaches job ok p l.pipe (laid_spanned j p l e).pipe_is) ∙ ap (drive_at st) (eqb-true _ _ r)) },
+          record { below = laid_below j p l e; driven = λ st. rw (laid_located j p l l.pipe.reaches e (omega arith)) (at_the_finish l.pipe.reaches _ _ _ (accepted_reaches job ok p l.pipe (laid_spanned j p l e).pipe_is) ∙ ap (drive_at st) (eqb-true _ _ r)) },
         )
     go p l e false q false r h = absurd (true≢false (sym h))
 

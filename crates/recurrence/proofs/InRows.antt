@@ -23,37 +23,37 @@ drive_entry : (job : List ℕ) (lent : Rows) (cs : List LentCall) (ds : List Cal
     → (y : ℕ) → y < length (job_of job).nodes → drive_in (held_by job lent cs).rows y ≡ drive_at (played (job_of job) ds).state y
 drive_entry job lent cs ds f y l = holds_drive (job_of job) (held_by job lent cs).rows (played (job_of job) ds).state f.rows f.sized y l
 
-module _ (a b : List ℕ) (lentA lentB : Rows) (calls_a callsB : List LentCall) (cs : List Call)
-    (fa : Follows a (held_by a lentA calls_a) (played (job_of a) cs)) (fb : Follows b (held_by b lentB callsB) (played (job_of b) cs))
+module _ (a b : List ℕ) (lent_a lent_b : Rows) (calls_a calls_b : List LentCall) (cs : List Call)
+    (fa : Follows a (held_by a lent_a calls_a) (played (job_of a) cs)) (fb : Follows b (held_by b lent_b calls_b) (played (job_of b) cs))
     (sections_same : sections (job_of a) ≡ sections (job_of b)) (nodes-same : length (job_of a).nodes ≡ length (job_of b).nodes) where
-  done_a : (held_by a lentA calls_a).done ≡ steps_done (job_of a) cs
+  done_a : (held_by a lent_a calls_a).done ≡ steps_done (job_of a) cs
   done_a = fa.done ∙ played_counts (job_of a) cs
 
-  done_b : (held_by b lentB callsB).done ≡ steps_done (job_of b) cs
+  done_b : (held_by b lent_b calls_b).done ≡ steps_done (job_of b) cs
   done_b = fb.done ∙ played_counts (job_of b) cs
 
   in_rows : (s : ℕ) → s < sections (job_of a) → point_at (played (job_of a) cs).state s ≡ point_at (played (job_of b) cs).state s
-      → point_in (held_by a lentA calls_a).rows s ≡ point_in (held_by b lentB callsB).rows s
-  in_rows s l e = entry a lentA calls_a cs fa s l ∙ e ∙ sym (entry b lentB callsB cs fb s (rw sections_same at l))
+      → point_in (held_by a lent_a calls_a).rows s ≡ point_in (held_by b lent_b calls_b).rows s
+  in_rows s l e = entry a lent_a calls_a cs fa s l ∙ e ∙ sym (entry b lent_b calls_b cs fb s (rw sections_same at l))
 
   -- of drives, whole or a field of them
   in_node_rows : {C : Type 0} (f : Drive → C) (y : ℕ) → y < length (job_of a).nodes → f (drive_at (played (job_of a) cs).state y) ≡ f (drive_at (played (job_of b) cs).state y)
-      → f (drive_in (held_by a lentA calls_a).rows y) ≡ f (drive_in (held_by b lentB callsB).rows y)
-  in_node_rows f y l e = ap f (drive_entry a lentA calls_a cs fa y l) ∙ e ∙ sym (ap f (drive_entry b lentB callsB cs fb y (rw nodes-same at l)))
+      → f (drive_in (held_by a lent_a calls_a).rows y) ≡ f (drive_in (held_by b lent_b calls_b).rows y)
+  in_node_rows f y l e = ap f (drive_entry a lent_a calls_a cs fa y l) ∙ e ∙ sym (ap f (drive_entry b lent_b calls_b cs fb y (rw nodes-same at l)))
 
 pub demand_3_in_rows : Demand3InRows
 unfolding sections
-demand_3_in_rows a b lentA lentB sa sb x k pos al be calls_a callsB same chA chB =
+demand_3_in_rows a b lent_a lent_b sa sb x k pos al be calls_a calls_b same chA chB =
     let cs = map (call_of a) calls_a in
-    let wa = calls_follow a lentA sa calls_a chA in
-    let wb = rw (← same) at (calls_follow b lentB sb callsB chB) in
-    let c = demand_3 a b (begun a lentA sa).accepted (begun b lentB sb).accepted x k pos al be cs in
+    let wa = calls_follow a lent_a sa calls_a chA in
+    let wb = rw (← same) at (calls_follow b lent_b sb calls_b chB) in
+    let c = demand_3 a b (begun a lent_a sa).accepted (begun b lent_b sb).accepted x k pos al be cs in
     let pipes = ap sections_of al.pipes in
-    let da = done_a a b lentA lentB calls_a callsB cs wa.0 wb.0 pipes al.count in
-    let db = done_b a b lentA lentB calls_a callsB cs wa.0 wb.0 pipes al.count in
-    let rows = in_rows a b lentA lentB calls_a callsB cs wa.0 wb.0 pipes al.count in
-    let drives = in_node_rows a b lentA lentB calls_a callsB cs wa.0 wb.0 pipes al.count (λ (z : Drive). z) in
-    let inflows = in_node_rows a b lentA lentB calls_a callsB cs wa.0 wb.0 pipes al.count (λ (z : Drive). z.inflow) in
+    let da = done_a a b lent_a lent_b calls_a calls_b cs wa.0 wb.0 pipes al.count in
+    let db = done_b a b lent_a lent_b calls_a calls_b cs wa.0 wb.0 pipes al.count in
+    let rows = in_rows a b lent_a lent_b calls_a calls_b cs wa.0 wb.0 pipes al.count in
+    let drives = in_node_rows a b lent_a lent_b calls_a calls_b cs wa.0 wb.0 pipes al.count (λ (z : Drive). z) in
+    let inflows = in_node_rows a b lent_a lent_b calls_a calls_b cs wa.0 wb.0 pipes al.count (λ (z : Drive). z.inflow) in
     record {
       near = λ d s e l off h. rows s l (c.near d s (sym da ∙ e ∙ db) l off (rw da at h));
       apart = λ s e l off. rows s l (c.apart s (sym da ∙ e ∙ db) l off);

@@ -1,5 +1,5 @@
 -- Demand 3's equality is equality of bits: values of the f64 format are equal exactly where their patterns are. `to_bits` is the machine's own pattern of
--- every value but a NaN, and by `all-finite` no head, flow or envelope that a list of calls leaves is one. Assumes nothing.
+-- every value but a NaN, and by `all_finite_lem` no head, flow or envelope that a list of calls leaves is one. Assumes nothing.
 use mathlib.Core.Path.{◌≡◌, sym, ap, ◌∙◌}
 use mathlib.Core.Logic.{◌↔◌}
 use lib.Dec.{T}

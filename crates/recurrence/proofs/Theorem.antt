@@ -197,7 +197,7 @@ wave_carries A B okA okB x k pos al be calls = record {
   apart = λ s b _ off. in_cone A B away cl calls b s (λ e r. absurd (off e r));
   node_near = λ d y s b _ a off h out.
       drive_in_cone A B away cl calls b y s a (λ e r. omega (arith, off e r))
-      (λ z. start_alike A B x k al be y (λ q p. let late : ¬ (k ≡ 1) = λ e. out record { at_start_figure = z; itself = q; a_pump_figure = p; edited = e } in omega arith));
+      (λ z. start_alike A B x k al be y (λ q p. let late : ¬ (k ≡ 1) = λ e. out record { at_the_start = z; itself = q; is_a_pump = p; edited = e } in omega arith));
   inflow_near = λ d y s b _ a off h. inflow_in_cone A B away cl calls b y s a (λ e r. omega (arith, off e r));
   node_apart = λ y s b _ a off.
       drive_in_cone A B away cl calls b y s a (λ e r. absurd (off e r))

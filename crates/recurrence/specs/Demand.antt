@@ -39,9 +39,9 @@ IsPump (pump a b c) = Unit {0}
 
 -- "Save the speed that the start writes at the edited pump itself: with k = 1 it follows the edited first entry": node y after m steps.
 pub record FirstEntry (j : Job) (x k m y : ℕ) : Type 0 where
-  pub at_start_figure : m ≡ 0
+  pub at_the_start : m ≡ 0
   pub itself : y ≡ x
-  pub a_pump_figure : IsPump (node_at j y).kind
+  pub is_a_pump : IsPump (node_at j y).kind
   pub edited : k ≡ 1
 
 -- What two runs by one list of calls have alike, where both have done m steps: each section at least d reaches from the node x by every path holds the

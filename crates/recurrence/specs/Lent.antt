@@ -104,8 +104,8 @@ seen_in job lent cs =
 -- "The same calls means the same N and the same answer to question 20, call by call."
 abbrev pub Demand3InRows : Type 0
 Demand3InRows =
-    (a b : List ℕ) (lentA lentB : Rows) → Started a lentA → Started b lentB
+    (a b : List ℕ) (lent_a lent_b : Rows) → Started a lent_a → Started b lent_b
     → (x k : ℕ) → 1 ≤ k → AlikeBut x (job_of a) (job_of b) → AlikeBefore k x (job_of a) (job_of b)
-    → (calls_a callsB : List LentCall) → map (call_of a) calls_a ≡ map (call_of b) callsB
-    → Chained a (held_at_start a lentA) calls_a → Chained b (held_at_start b lentB) callsB
-    → Carried (job_of a) x k (seen_in a lentA calls_a) (seen_in b lentB callsB)
+    → (calls_a calls_b : List LentCall) → map (call_of a) calls_a ≡ map (call_of b) calls_b
+    → Chained a (held_at_start a lent_a) calls_a → Chained b (held_at_start b lent_b) calls_b
+    → Carried (job_of a) x k (seen_in a lent_a calls_a) (seen_in b lent_b calls_b)

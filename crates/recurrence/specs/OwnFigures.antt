@@ -218,7 +218,7 @@ pub record StepFigures : Type 0 where
   pub closing_3 : (ran_on job_q_closing 3).rows heads are row (num 10) (num 14) (num 14)
   -- and a run-on with m = 1 begins at step 2
   pub closing_from_1 : (run_on_call job_q_closing 1 1 (start_call job_q_closing lent_sevens).rows).rows heads are row (num 10) (num 10) (num 14)
-  -- R of each reach, S of each pipe, each kind's value of the step; at steps 1 and 2 the valve's end has K - S-as-H, which is q but for rounding. With the
+  -- R of each reach, S of each pipe, each kind's value of the step; at steps 1 and 2 the valve's end has K - S·H, which is q but for rounding. With the
   -- root cut down section 5, the valve's, would have another head at step 1, section 4 at step 2, sections 3 and 5 at step 3.
   pub heads_1 : after two_pipes 1 heads ≡ 0x4026_0000_0000_0000 ∷ 0x402a_84bd_a12f_684b ∷ 0x402a_84bd_a12f_684b ∷ 0x4013_36db_6db6_db6d ∷ 0x401d_2492_4924_9249 ∷ 0x401f_be19_9860_0ddf ∷ []
   pub flows_1 : after two_pipes 1 flows ≡ 0x3fe8_0000_0000_0000 ∷ 0xbfe0_97b4_25ed_0960 ∷ 0xbff0_4bda_12f6_84c8 ∷ 0x3fd5_9999_9999_9998 ∷ 0x4009_9999_9999_999b ∷ 0x4006_42a8_f779_862c ∷ []

@@ -1,4 +1,4 @@
--- Figures of request 7 over steps and calls, proved in proofs/PowerFailure.antt. Those of `pumpingMain` come from a model in Python, written from the papers,
+-- Figures of request 7 over steps and calls, proved in proofs/PowerFailure.antt. Those of `pumping_main` come from a model in Python, written from the papers,
 -- one rounding an operation; the others were worked out by hand, in numbers that no operation rounds, and the model agrees. Definitions only.
 use Rattle.std.specs.Prelude.{◌≡◌, true, List, [], ◌∷◌, ℕ, replicate, Float}
 use Rattle.std.specs.Float.Ieee.{neg}

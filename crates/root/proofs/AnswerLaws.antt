@@ -1,4 +1,4 @@
--- `rootOf` by the argument's pattern, and what follows of the call's answer. Assumes nothing.
+-- `root_of` by the argument's pattern, and what follows of the call's answer. Assumes nothing.
 use mathlib.Core.Path.{◌≡◌, refl, sym, ap, ap₂, ◌∙◌, subst}
 use Prim.Native.Nat.{ℕ, zero, suc, ◌+◌, ◌-◌, ◌*◌, ◌/◌, ◌%◌, ◌^◌, ◌≤◌, ◌<◌}
 use mathlib.Core.Logic.{⊎_elim}

@@ -1,5 +1,5 @@
--- Of all values `rootDigits n` makes the one nearest the root of n: the middle of it and of any other lies on that one's side of the root. A value that is a
--- multiple of the last digit's place is a whole number of such places, where `rootDigits` is nearest; any other is below 2 ^ 52 of them, and those are at
+-- Of all values `root_digits n` makes the one nearest the root of n: the middle of it and of any other lies on that one's side of the root. A value that is a
+-- multiple of the last digit's place is a whole number of such places, where `root_digits` is nearest; any other is below 2 ^ 52 of them, and those are at
 -- most the root. Assumes nothing.
 use mathlib.Core.Path.{◌≡◌, refl, sym, ap, ◌∙◌, subst}
 use mathlib.Core.Logic.{◌⊎◌, inl, inr, ⊎_elim}

@@ -62,7 +62,7 @@ units_pos b h = go (b / 2 ^ 52) (b % 2 ^ 52) (λ e. omega arith)
 
 -- ---- a finite value that fits
 
--- the count of a value, as `to_bits` and `rootOf` work it out
+-- the count of a value, as `to_bits` and `root_of` work it out
 pub count_is : (m : ℕ) (e : ℤ) (u : ℕ) → m * up e * 2 ^ 1074 ≡ u * down e → m * up e * 2 ^ 1074 / down e ≡ u
 count_is m e u h = ap (λ (x : ℕ). x / down e) h ∙ mul-div_cancel u (down_pos e)
 

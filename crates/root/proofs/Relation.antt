@@ -1,5 +1,5 @@
--- `rootOf x` is the root of x where x may be rooted (`root_is`), no other f64 is (`one-root-only`), and ties never decide: no f64 is as near as the root
--- (`none-as-near`), and none has a root midway between two neighbours (`no-midway`). Each is read off counts of the smallest f64, where `rootOf x` is nearer than
+-- `root_of x` is the root of x where x may be rooted (`root_is`), no other f64 is (`one_root_only`), and ties never decide: no f64 is as near as the root
+-- (`none_as_near`), and none has a root midway between two neighbours (`no_midway`). Each is read off counts of the smallest f64, where `root_of x` is nearer than
 -- any other value. Assumes nothing.
 use mathlib.Core.Path.{◌≡◌, refl, sym, ap, ◌∙◌, subst}
 use mathlib.Core.Bool.{Bool, true, false, not, cond, true≢false}
@@ -147,7 +147,7 @@ same_value (fin false m c) (fin true n d) i j e = absurd j.sign
 same_value (fin false m c) (fin false n d) i j e =
     one_value binary64 (fin false m c) (fin false n d) false (m * up c) (down c) (down_pos c) i.held j.held (refl, refl) (refl, sym e)
 
--- where r lay beside `rootOf x`, the middle of both would be on either side of the exact root
+-- where r lay beside `root_of x`, the middle of both would be on either side of the exact root
 pub is_root_of : (x r : Float) → T (fits binary64 x) → IsRoot x r → r ≡ root_of x
 is_root_of x r f i = same_value r w i.value (may x A) (neither ((exact r).numerator * (exact w).denominator) ((exact w).numerator * (exact r).denominator) less more)
   where
@@ -172,7 +172,7 @@ one_root_only x r q f i j = is_root_of x r f i ∙ sym (is_root_of x q f j)
 pub none_as_near : (x r q : Float) → T (fits binary64 x) → IsRoot x r → MayBeRoot q → AsNear x q r → ⊥
 none_as_near x r q f i h t = none_as_near_of x (rooted x f (is_true (rootable x) i.allowed)) q h (subst (λ (w : Float). AsNear x q w) (is_root_of x r f i) t)
 
--- `rootOf x` would be at most p, and then its middle with q at most the exact root, or at least q, and then its middle with p at least the exact root:
+-- `root_of x` would be at most p, and then its middle with q at most the exact root, or at least q, and then its middle with p at least the exact root:
 -- neither is so of the nearest.
 pub no_midway : (x p q : Float) → T (fits binary64 x) → T (rootable x) → Neighbours p q → Equal (twice_middle_squared p q) (twice_root_squared x) → ⊥
 no_midway x p q f a n e = go (ltb P w) (ltb→lt P w) (nltb→le P w)

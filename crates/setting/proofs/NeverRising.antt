@@ -1,4 +1,4 @@
--- The heads of a chain never rise: a reach takes off ((R-as-Q)·|Q|)/S, which is not below zero, and h less what is not below zero is not above h, since rounding keeps
+-- The heads of a chain never rise: a reach takes off ((R·Q)·|Q|)/S, which is not below zero, and h less what is not below zero is not above h, since rounding keeps
 -- the order; a node takes nothing off. Assumes nothing.
 use mathlib.Core.Path.{◌≡◌, refl, sym, subst}
 use mathlib.Core.Bool.{true, false}

@@ -26,8 +26,8 @@ EachPipe job m fact = (p : ℕ) → p < m → (l : Laid) → LaidAt job p l → 
 
 -- first K of both ends of each of the first m pipes, where the flows will be
 pub record KTo (job : List ℕ) (heads flows spare : List Float) (m : ℕ) : Type 0 where
-  pub at_start_figure : EachPipe job m (λ p l. get_or spare (p * 4 + 1) nan ≡ k_at_start (along_rows job heads flows) l)
-  pub at_finish_figure : EachPipe job m (λ p l. get_or spare (p * 4 + 3) nan ≡ k_at_finish (along_rows job heads flows) l)
+  pub at_the_start : EachPipe job m (λ p l. get_or spare (p * 4 + 1) nan ≡ k_at_start (along_rows job heads flows) l)
+  pub at_the_finish : EachPipe job m (λ p l. get_or spare (p * 4 + 3) nan ≡ k_at_finish (along_rows job heads flows) l)
 
 abbrev pub KIn : List ℕ → List Float → List Float → List Float → Type 0
 KIn job heads flows spare = KTo job heads flows spare (pipe_count (pipe_table job))
@@ -41,15 +41,15 @@ finish_by nodes spare p l = finish_end l.pipe.S (get_or spare (p * 4 + 3) nan) (
 
 -- the spare after those of the first m pipes are stored
 pub record EndsByKTo (job : List ℕ) (nodes before after : List Float) (m : ℕ) : Type 0 where
-  pub at_start_figure : EachPipe job m (λ p l. end_in after (p * 4) ≡ start_by nodes before p l)
-  pub at_finish_figure : EachPipe job m (λ p l. end_in after (p * 4 + 2) ≡ finish_by nodes before p l)
+  pub at_the_start : EachPipe job m (λ p l. end_in after (p * 4) ≡ start_by nodes before p l)
+  pub at_the_finish : EachPipe job m (λ p l. end_in after (p * 4 + 2) ≡ finish_by nodes before p l)
 
 abbrev pub EndsByK : List ℕ → List Float → List Float → List Float → Type 0
 EndsByK job nodes before after = EndsByKTo job nodes before after (pipe_count (pipe_table job))
 
 -- the new head and flow at the ends of every pipe, by the nodes
 pub record EndsIn (job : List ℕ) (nodes : ℕ → Node) (heads flows spare : List Float) : Type 0 where
-  pub at_start_figure : (p : ℕ) (l : Laid) → LaidAt job p l
+  pub at_the_start : (p : ℕ) (l : Laid) → LaidAt job p l
       → end_in spare (p * 4) ≡ at_start (laid (job_of job)) (along_rows job heads flows) nodes l
-  pub at_finish_figure : (p : ℕ) (l : Laid) → LaidAt job p l
+  pub at_the_finish : (p : ℕ) (l : Laid) → LaidAt job p l
       → end_in spare (p * 4 + 2) ≡ at_finish (laid (job_of job)) (along_rows job heads flows) nodes l

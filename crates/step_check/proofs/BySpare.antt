@@ -45,5 +45,5 @@ module _ (job : List ℕ) (nodes : ℕ → Node) (heads flows spare : List Float
   pub by_spare : (i : ℕ) → i ≤ l.pipe.reaches → new_by_spare job l spare (p * 4) heads flows i ≡ new_section job nodes heads flows (l.first_section + i)
   unfolding new_section new_at new_in
   by_spare i h =
-      ap₂ (λ (start finish : HeadFlow). end_to_end l.pipe.reaches start finish (between (along_rows job heads flows) l) i) (ends.at_start_figure p l is) (ends.at_finish_figure p l is)
+      ap₂ (λ (start finish : HeadFlow). end_to_end l.pipe.reaches start finish (between (along_rows job heads flows) l) i) (ends.at_the_start p l is) (ends.at_the_finish p l is)
       ∙ rw (laid_located (job_of job) p l i is h)

@@ -1,4 +1,4 @@
--- `wholeRoot` is the root cut down, and there is one such. Assumes nothing.
+-- `whole_root` is the root cut down, and there is one such. Assumes nothing.
 use mathlib.Core.Path.{◌≡◌, subst}
 use mathlib.Core.Bool.{Bool, true, false, not, cond}
 use Prim.Native.Nat.{ℕ, zero, suc, ◌+◌, ◌*◌, ◌/◌, ◌^◌, ◌≤◌, ◌<◌}

@@ -16,7 +16,8 @@ TOP = pathlib.Path(__file__).resolve().parents[3]
 FOLLOWS = ("not checked: ", "were not checked", "was not checked")
 SHOWS_NOTHING = (
     ("a tactic gave up", r"met a bound of its own|step limit|ran out of steps|gave up|did not finish|no verdict"),
-    ("a name is not there", r"is not in scope|has no `[^`]*` that can be named|no module named|unknown name"),
+    ("a name is not there", r"is not in scope|has no `[^`]*` that can be named|has no field|no module named|unknown name"),
+    ("it only follows from another error", r"not checked: |were not checked|was not checked"),
     ("a goal can't be named", r"Need-[^`]*` that can be named|takes \d+ arguments?, but|is given too many arguments"),
     ("another place than the proof has", r"expected type `tie\.(?:After|Then|Else|At|In|Joined|Start)"),
     ("a rewriting found no place", r"no occurrence of the path's|no part of the goal"),
@@ -50,16 +51,19 @@ def first_error(log):
     return ""
 
 
+OPEN_GOAL = "it is not proved that"  # of a function without a proof file: the goal that is left open is the fact
+
+
 def shows_nothing(error):
+    if not error.strip():
+        yield "no error is told"
     for what, words in SHOWS_NOTHING:
-        if re.search(words, error):
+        if re.search(words, error) and OPEN_GOAL not in error:
             yield "shows nothing (%s)" % what
 
 
 def faults(error):
     """What is wrong with a whole first error, as far as words tell."""
-    if not error:
-        yield "no error in its log"
     yield from shows_nothing(error)
     for what, words in NOT_READABLE:
         if re.search(words, error) and not re.search(DIFFERENCE, error):
@@ -86,7 +90,7 @@ def main():
         if name not in said:
             bad.append("%s: it has not been refused" % name)
             continue
-        only, _, error = said[name].partition("): ") if said[name].startswith(" (") else ("", "", said[name])
+        only, _, error = said[name].partition("): ") if said[name].startswith(" (") else ("", "", said[name].removeprefix(": "))
         if only:
             bad.append("%s: refused%s)" % (name, only[:200]))
         bad += ["%s: %s: %s" % (name, what, error[:300]) for what in shows_nothing(error)]

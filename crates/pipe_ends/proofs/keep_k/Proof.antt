@@ -81,14 +81,14 @@ loop-again c =
     let l = laid_of read.pipe_at-l.result in
     let is = read.pipe_at-l.ensures in
     let p = loop.loop-at.at.pipe in
-    let at_start_figure = ks.before.k_at_start-at_start.ensures in
-    let at_finish_figure = ks.k_at_finish-at_finish.ensures in
+    let at_the_start = ks.before.k_at_start-at_start.ensures in
+    let at_the_finish = ks.k_at_finish-at_finish.ensures in
     rw c.past-at.ensures (
       search rules,
       (next read).walked,
-      sums_more (with_t _) _ _ _ (entry loop).requires.0.accepted p with_k (b_adds _) _ l is inv.2 first.with_k.ensures second.with_k-in-loop-at.ensures at_start_figure at_finish_figure,
+      sums_more (with_t _) _ _ _ (entry loop).requires.0.accepted p with_k (b_adds _) _ l is inv.2 first.with_k.ensures second.with_k-in-loop-at.ensures at_the_start at_the_finish,
       simp length-set inv.3,
-      k_more _ _ _ loop.loop-at.spare p l _ _ (room read.before) inv.4 is at_start_figure at_finish_figure,
+      k_more _ _ _ loop.loop-at.spare p l _ _ (room read.before) inv.4 is at_the_start at_the_finish,
       k_rest (entry loop).args.spare.now loop.loop-at.spare p _ _ inv.5,
     )
 
