@@ -14,9 +14,9 @@
  *   the thread that asks.
  * - Floating-point exceptions are not trapped. The calls raise their flags; a trap would end the program.
  * - The thread that calls has VINTUQAY_STACK_BYTES of stack left. No call takes other memory. Measured, in
- *   KB: vintuqay_run_on 3.9, vintuqay_set_valve 1.8, vintuqay_root 1.6, vintuqay_start 0.9, vintuqay_read
- *   0.3, vintuqay_line 0.1; some 3 more for the first of vintuqay_run_on and vintuqay_start where memcpy
- *   or memset is looked up late. The program surgelist takes 94.
+ *   KB: vintuqay_run_on 4.7, vintuqay_set_valve 1.9, vintuqay_root 1.7, vintuqay_start 1.0, vintuqay_read
+ *   0.2, vintuqay_line 0.1; some 3 more for the first of vintuqay_run_on and vintuqay_start where memcpy
+ *   or memset is looked up late. The program surgelist runs within 100.
  *
  * Calls on different slices may run in several threads at the same time: no call writes anything but
  * the slices lent to it, *coefficient and its own stack. They may lend the same `job`.
