@@ -1,6 +1,6 @@
 -- The parts of a packed answer are those it was packed from, where they are in range, by division with rest; and a call whose answer is packed gives the
 -- packed answer and the rows of the call that it equals. Assumes nothing.
-use mathlib.Core.Path.{◌≡◌, refl, ◌∙◌, sym, ap}
+use mathlib.Core.Path.{◌≡◌, refl, ◌∙◌, ap}
 use mathlib.Core.List.{List}
 use Prim.Native.Nat.{ℕ, ◌<◌, ◌≤◌}
 use native.Mathlib.Omega.{arith}
@@ -8,7 +8,7 @@ use Rattle.recurrence.specs.Calls.{Called}
 use lib.Ieee.{Float}
 use Rattle.setting.specs.Setting as Set
 use Rattle.setting.proofs.Laws.{Tells, tells}
-use Rattle.c_interface.specs.Packed.{packed, number_in, section_in, steps_in, packed_answer, packed_setting, coefficient_left}
+use Rattle.c_interface.specs.Packed.{packed, number_in, section_in, steps_in, packed_answer, packed_setting}
 
 pub record Parts (number section steps : ℕ) : Type 0 where
   pub number_back : number_in (packed number section steps) ≡ number
@@ -22,16 +22,7 @@ parts_back number section steps n s m = record { number_back = omega (arith, n, 
 pub packed_call : {done given : Called} {n : ℕ} → n ≡ packed_answer done.answer → done ≡ given → (n ≡ packed_answer given.answer) × (done.rows ≡ given.rows)
 packed_call e f = (e ∙ ap (λ (x : Called). packed_answer x.answer) f, ap (λ (x : Called). x.rows) f)
 
--- the same of the call that sets a valve, with what stands in the place lent for the coefficient
-pub packed_setting_lem :
-    {done given : Set.Called} {answer : Set.Answer} {n : ℕ} (held : Float) {left : Float} → done ≡ given → done.answer ≡ answer → n ≡ packed_setting answer
-    → left ≡ coefficient_left answer held
-    → (n ≡ packed_setting given.answer) × (done.heads ≡ given.heads) × (done.flows ≡ given.flows) × (left ≡ coefficient_left given.answer held)
-packed_setting_lem held f a e l =
-    let same = sym a ∙ ap (λ (x : Set.Called). x.answer) f in
-    (e ∙ ap packed_setting same, ap (λ (x : Set.Called). x.heads) f, ap (λ (x : Set.Called). x.flows) f, l ∙ ap (λ (x : Set.Answer). coefficient_left x held) same)
-
--- The three kinds of that answer are told apart by its number: a refusal has its own, from 1 to 53, 'none' 255, a coefficient 0.
+-- The three kinds of answer of the call that sets a valve are told apart by its number: a refusal has its own, from 1 to 53, 'none' 255, a coefficient 0.
 abbrev Told : Set.Answer → ℕ → Type 0
 Told (Set.refused q) n = (n ≡ q) × (1 ≤ n) × (n ≤ 53)
 Told Set.none n = n ≡ 255

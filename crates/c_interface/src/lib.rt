@@ -12,9 +12,8 @@ ghost use Rattle.listing_text.specs.Listing.{line_written, AtFront};
 ghost use Rattle.setting.specs.Setting.{set_valve};
 ghost use Rattle.c_interface.specs.Packed.{packed, packed_answer, packed_read, packed_setting, coefficient_left};
 
-use reader::Read;
-use surge::Answer;
-use valve_setting::Setting;
+use listing::Line;
+use surge::{Halt, Numbers};
 
 // The number of an answer 'none', which the papers give no number.
 const NONE: usize = 255;
@@ -29,10 +28,10 @@ fn pack(number: usize, section: usize, steps: u64) -> u64
 }
 
 // The answer of the start and the run-on as one number.
-fn pack_answer(answer: Answer) -> u64
+fn pack_answer(answer: Result<u64, Halt>) -> u64
     ensures { result ≡ packed_answer (paper_answer answer) }
 {
-    let n = surge::numbers_of(answer);
+    let n = Numbers::from(answer);
     pack(n.number, n.section, n.steps)
 }
 
@@ -45,14 +44,14 @@ pub extern "C" fn vintuqay_root(x: f64) -> f64
 }
 
 // Questions 1 to 15, with 50 and 53.
+#[tactic(auto, unfolding(crate::specs::Packed::packed_read))]
 #[unsafe(no_mangle)]
 pub extern "C" fn vintuqay_read(job: &[u8]) -> u64
     ensures { result ≡ packed_read (read_answer job.now) }
 {
-    let read = reader::read(job);
-    match read {
-        Read::Refused(q) => pack(q, 0, 0),
-        Read::Accepted { sections, steps } => pack(0, sections, steps as u64),
+    match reader::read(job) {
+        Err(first_no) => pack(first_no.number(), 0, 0),
+        Ok(held) => pack(0, held.sections, held.steps as u64),
     }
 }
 
@@ -99,6 +98,7 @@ pub extern "C" fn vintuqay_run_on(
 }
 
 // Sets the valve of a chain for a discharge at a level. The coefficient is written where one is given.
+#[tactic(auto, unfolding(crate::specs::Packed::packed_setting, crate::specs::Packed::coefficient_left))]
 #[unsafe(no_mangle)]
 pub extern "C" fn vintuqay_set_valve(
     job: &[u8],
@@ -113,11 +113,10 @@ pub extern "C" fn vintuqay_set_valve(
         (result ≡ packed_setting call.answer) × (heads.new ≡ call.heads) × (flows.new ≡ call.flows)
         × (coefficient.new ≡ coefficient_left call.answer coefficient.old) }
 {
-    let setting = valve_setting::set_valve(job, level, discharge, heads, flows);
-    match setting {
-        Setting::Refused(n) => pack(n, 0, 0),
-        Setting::Nothing => pack(NONE, 0, 0),
-        Setting::Coefficient(a) => {
+    match valve_setting::set_valve(job, level, discharge, heads, flows) {
+        Err(question) => pack(question.number(), 0, 0),
+        Ok(None) => pack(NONE, 0, 0),
+        Ok(Some(a)) => {
             *coefficient = a;
             pack(0, 0, 0)
         }
@@ -137,5 +136,12 @@ pub extern "C" fn vintuqay_line(
     ensures { AtFront (line_written section head flow highest lowest (length out.old))
         out.old result out.new }
 {
-    listing::write_line(section, head, flow, highest, lowest, out)
+    let line = Line {
+        section,
+        head,
+        flow,
+        highest,
+        lowest,
+    };
+    line.write(out)
 }

@@ -11,7 +11,8 @@ ghost use Rattle.recurrence.specs.Run.{within_limit};
 ghost use Rattle.recurrence.specs.Calls.{state_in, gathered};
 ghost use Rattle.call_questions.specs.Opening.{long_enough, first_asked};
 
-use reader::Read;
+use job::questions::{Question, ask};
+use reader::Held;
 
 // The most steps that a run may come to.
 const LIMIT: u64 = 1000000;
@@ -39,22 +40,15 @@ fn enough(job: &[u8], n: usize, l: Lengths) -> bool
     by_sections & (nodes <= l.speeds) & (nodes <= l.inflows) & (ends <= l.spare)
 }
 
-// Questions 1 to 15, with 50 and 53, then 20 of the lengths of the rows: the number of the first no, or what the job
-// holds.
-pub fn read_and_enough(job: &[u8], l: Lengths) -> Read
+// Questions 1 to 15, with 50 and 53, then 20 of the lengths of the rows: the first with a no, or what the job holds.
+#[tactic(auto, unfolding(crate::specs::Opening::first_asked), using(reader::proofs::AnswerLaws::answer_is))]
+pub fn read_and_enough(job: &[u8], l: Lengths) -> Result<Held, Question>
     ensures { paper_read result
         ≡ first_asked job.now (long_enough (job_of job.now) l) }
 {
-    let read = reader::read(job);
-    match read {
-        Read::Refused(_) => read,
-        Read::Accepted { sections, steps: _ } => {
-            if !enough(job, sections, l) {
-                return Read::Refused(20);
-            }
-            read
-        }
-    }
+    let held = reader::read(job)?;
+    ask(enough(job, held.sections, l), Question::LentLengths)?;
+    Ok(held)
 }
 
 // Question 21.

@@ -30,15 +30,13 @@ fn write_initial(
         × (highest.new ≡ fill head highest.old 0 n)
         × (lowest.new ≡ fill head lowest.old 0 n)) }
 {
-    let mut s = 0;
-    while s < n {
+    for s in 0..n {
         let head = job::values::head_at(initial, s);
         let flow = job::values::flow_at(initial, s);
         heads[s] = head;
         flows[s] = flow;
         highest[s] = head;
         lowest[s] = head;
-        s += 1;
     }
 }
 

@@ -1,7 +1,7 @@
--- The tests of a chain, of the tables that a job is read from: a kind is told by its number, each record is read at its own place, and of three tests the first
+-- The tests of a chain, of the tables that a job is read from: each record is read at its own place, and of three tests the first
 -- no decides. Assumes nothing.
 use mathlib.Core.Path.{◌≡◌, refl, sym, ap, ap₂, ◌∙◌}
-use mathlib.Core.Bool.{Bool, true, false, cond, ◌&&◌}
+use mathlib.Core.Bool.{Bool, true, false, ◌&&◌}
 use mathlib.Core.List.{List}
 use Prim.Native.Nat.{ℕ, ◌+◌, ◌<◌}
 use native.Mathlib.Omega.{arith}
@@ -13,88 +13,24 @@ use Rattle.loops.specs.Loops.{all_below, listed}
 use Rattle.loops.proofs.All.{all_at, all_cong}
 use Rattle.loops.proofs.Listed.{length-listed, get_or-listed}
 use Rattle.loops.proofs.Tests.{both, half_fails, half_holds}
-use Rattle.job.specs.Job.{junction, reservoir, valve, pump, ScheduledNode, node_at}
+use Rattle.job.specs.Job.{valve, ScheduledNode, node_at}
 use Rattle.job.specs.Format.{pipe_table, node_table, count_table, schedule_table, pipe_count, pipe_in, pipes_in}
-use Rattle.job.specs.Format.{node_count, kind_number, a_of, b_of, c_of, kind_in, node_in, job_of}
+use Rattle.job.specs.Format.{node_count, b_of, kind_in, schedule_count, place_of, entries_from, node_in, job_of}
 use Rattle.job.specs.Questions.{Accepted}
 use Rattle.job.proofs.Accepted.{pipes_length, nodes_length, pipe_limits}
 use Rattle.job.proofs.NodeLaws.{node_is}
-use Rattle.chain.specs.Chain.{pipe_at, pipe_fits, is_junction, is_reservoir, is_valve, all_zero, node_fits, is_chain}
+use Rattle.chain.specs.Chain.{pipe_at, pipe_fits, is_valve, all_zero, node_fits, is_chain}
 
--- ---- a kind by its number
+-- ---- a node
 
--- a number that is one is not another
-not_both : (k : ℕ) {m n : ℕ} → (m ≡ n → ⊥) → eqb k m ≡ true → eqb k n ≡ false
-not_both k {m} {n} h e = let q = eqb-true k m e in ne_eqb k n (λ z. h (sym q ∙ z))
-
-module _ (nodes : List ℕ) (node : ℕ) where
-  abbrev k : ℕ
-  k = kind_number nodes node
-
-  abbrev a : Float
-  a = a_of nodes node
-
-  abbrev b : Float
-  b = b_of nodes node
-
-  abbrev c : Float
-  c = c_of nodes node
-
-  pub junction_is : eqb k 0 ≡ is_junction (kind_in nodes node)
-  unfolding is_junction kind_in
-  junction_is = go (eqb k 0) (eqb k 1) (eqb k 2)
-    where
-      go : (x y z : Bool) → x ≡ is_junction (cond x junction (cond y reservoir (cond z (valve a b) (pump a b c))))
-      go true y z = refl
-      go false true z = refl
-      go false false true = refl
-      go false false false = refl
-
-  pub reservoir_is : eqb k 1 ≡ is_reservoir (kind_in nodes node)
-  unfolding is_reservoir kind_in
-  reservoir_is = go (eqb k 0) (eqb k 1) (eqb k 2) (not_both k (λ e. omega arith))
-    where
-      go : (x y z : Bool) → (x ≡ true → y ≡ false) → y ≡ is_reservoir (cond x junction (cond y reservoir (cond z (valve a b) (pump a b c))))
-      go true y z h = h refl
-      go false true z h = refl
-      go false false true h = refl
-      go false false false h = refl
-
-  pub valve_is : eqb k 2 ≡ is_valve (kind_in nodes node)
-  unfolding is_valve kind_in
-  valve_is = go (eqb k 0) (eqb k 1) (eqb k 2) (not_both k (λ e. omega arith)) (not_both k (λ e. omega arith))
-    where
-      go :
-          (x y z : Bool) → (x ≡ true → z ≡ false) → (y ≡ true → z ≡ false)
-          → z ≡ is_valve (cond x junction (cond y reservoir (cond z (valve a b) (pump a b c))))
-      go true y z h i = h refl
-      go false true z h i = i refl
-      go false false true h i = refl
-      go false false false h i = refl
-
--- ---- a node by its number and its kind's
-
-module _ (nodes : List ℕ) (schedule : List Float) (last node : ℕ) {k : ℕ} (e : k ≡ kind_number nodes node) where
-  abbrev fits : Bool
-  fits = node_fits last node record { kind = kind_in nodes node; schedule = schedule }
-
-  pub at_first : node ≡ 0 → eqb k 1 ≡ fits
-  unfolding node_fits
-  at_first z = rw (eq-eqb node 0 z, e) (reservoir_is nodes node)
-
-  module _ (n : node ≡ 0 → ⊥) where
-    pub at_last : node ≡ last → eqb k 2 ≡ fits
-    unfolding node_fits
-    at_last z = rw (ne_eqb node 0 n, eq-eqb node last z, e) (valve_is nodes node)
-
-    module _ (m : node ≡ last → ⊥) where
-      pub no_junction : (k ≡ 0 → ⊥) → false ≡ fits
-      unfolding node_fits
-      no_junction z = rw (ne_eqb node 0 n, ne_eqb node last m, ← junction_is nodes node, ← e, ne_eqb k 0 z)
-
-      pub at_junction : {r : Bool} → k ≡ 0 → r ≡ all_zero schedule → r ≡ fits
-      unfolding node_fits
-      at_junction z a = rw (ne_eqb node 0 n, ne_eqb node last m, ← junction_is nodes node, ← e, eq-eqb k 0 z) a
+-- asked by the place and the count in hand, which are its own
+pub own_node :
+    (nodes counts schedules : List ℕ) (last node : ℕ) {place count : ℕ} {r : Bool} → place ≡ place_of nodes counts node
+    → count ≡ schedule_count nodes counts node
+    → r ≡ node_fits last node record { kind = kind_in nodes node; schedule = entries_from schedules place count }
+    → r ≡ node_fits last node (node_in nodes counts schedules node)
+unfolding node_in
+own_node nodes counts schedules last node p k e = rw (← p, ← k) e
 
 -- ---- the entries of a schedule
 

@@ -9,22 +9,15 @@ ghost use Rattle.job.specs.Questions.{Accepted};
 ghost use Rattle.job.specs.QuestionParts.{NodesRight, numbers_finite};
 ghost use Rattle.chain.specs.Chain.{pipe_fits, all_zero, node_fits, is_chain};
 
+use job::nodes::{NodeKind, UnknownKind, kind};
+
 // Whether the `count` entries from a place on are all zero, of either sign.
 fn all_zero(schedules: &[u8], place: usize, count: usize) -> bool
     requires { ((place + count) * 8 ≤ length schedules.now)
         × (numbers_finite schedules.now place count ≡ true) }
     ensures { result ≡ all_zero (entries_from schedules.now place count) }
 {
-    let mut i = 0;
-    while i < count {
-        let entry = place + i;
-        let zero = fields::f64_at(schedules, entry * 8) == 0.0;
-        if !zero {
-            return false;
-        }
-        i += 1;
-    }
-    true
+    (0..count).all(|i| fields::f64_at(schedules, (place + i) * 8) == 0.0)
 }
 
 // Whether pipe p runs from node p to node p + 1.
@@ -42,19 +35,12 @@ fn pipes_fit(pipes: &[u8]) -> bool
     ensures { result ≡ all_below (λ (p : ℕ). pipe_fits p (pipe_in pipes.now p))
         (pipe_count pipes.now) }
 {
-    let n = pipes.len() / 12;
-    let mut p = 0;
-    while p < n {
-        if !pipe_fits(pipes, p) {
-            return false;
-        }
-        p += 1;
-    }
-    true
+    (0..pipes.len() / 12).all(|p| pipe_fits(pipes, p))
 }
 
 // Whether a node of a chain whose last node is `last` is what it must be. Its schedule has `count` entries from
 // `place` on.
+#[tactic(auto, unfolding(crate::specs::Chain::node_fits, crate::specs::Chain::is_junction, crate::specs::Chain::is_reservoir, crate::specs::Chain::is_valve, job::specs::Format::kind_in))]
 fn node_fits(
     nodes: &[u8],
     schedules: &[u8],
@@ -70,17 +56,12 @@ fn node_fits(
       schedule = entries_from schedules.now place count;
     } }
 {
-    let kind = job::nodes::kind(nodes, node);
-    if node == 0 {
-        return kind == 1;
+    match kind(nodes, node) {
+        Ok(NodeKind::Junction) => node != 0 && node != last && all_zero(schedules, place, count),
+        Ok(NodeKind::Reservoir) => node == 0,
+        Ok(NodeKind::Valve) => (node != 0) & (node == last),
+        Ok(NodeKind::Pump) | Err(UnknownKind) => false,
     }
-    if node == last {
-        return kind == 2;
-    }
-    if kind != 0 {
-        return false;
-    }
-    all_zero(schedules, place, count)
 }
 
 // Whether each node is. The place of a node's schedule, the sum of the counts before it, is carried along.
@@ -90,16 +71,13 @@ fn nodes_fit(nodes: &[u8], counts: &[u8], schedules: &[u8], last: usize) -> bool
         (node_in nodes.now counts.now schedules.now node))
         (node_count nodes.now) }
 {
-    let n = nodes.len() / 26;
     let mut place = 0;
-    let mut node = 0;
-    while node < n {
+    for node in 0..nodes.len() / 26 {
         let count = job::schedules::schedule_count(nodes, counts, node);
         if !node_fits(nodes, schedules, node, last, place, count) {
             return false;
         }
-        place = place + count;
-        node += 1;
+        place += count;
     }
     true
 }

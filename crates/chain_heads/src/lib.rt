@@ -10,10 +10,10 @@ ghost use Rattle.job.specs.TableEntries.{r_of, initial_of};
 ghost use Rattle.job.specs.Questions.{Accepted, friction_fits, initial_fits};
 ghost use Rattle.setting.specs.Setting.{head_after, head_along, head_fits, head_at, last_head};
 
-use job::walk::Walk;
 use pipe_layout::Laid;
 
-// The head that is carried on, and whether every head so far is finite and not below its floor.
+// The head that is carried on, and whether every head so far is finite and not below its floor. No Option of the head:
+// `judge` tells the head past the last reach where one does not fit too, and `set_or_none` reckons with it.
 #[derive(Clone, Copy)]
 pub struct Judged {
     pub head: f64,
@@ -60,15 +60,13 @@ fn judge_pipe(friction: &[u8], initial: &[u8], l: Laid, q: f64, h: f64) -> Judge
 {
     let mut head = h;
     let mut fits = true;
-    let mut i = 0;
-    while i < l.reaches {
+    for i in 0..l.reaches {
         let s = l.first_section + i;
         let next = head_past(friction, l, i, q, head);
         fits = fits & head_fits(initial, s, head);
         head = next;
-        i += 1;
     }
-    let last = l.first_section + i;
+    let last = l.first_section + l.reaches;
     fits = fits & head_fits(initial, last, head);
     Judged { head, fits }
 }
@@ -83,16 +81,12 @@ pub fn judge(job: &[u8], level: f64, q: f64) -> Judged
 {
     let friction = job::tables::friction(job);
     let initial = job::tables::initial(job);
-    let count = pipe_layout::pipe_count(job);
     let mut head = level;
     let mut fits = true;
-    let mut at = Walk::begun();
-    while at.pipe < count {
-        let l = pipe_layout::pipe_at(job, at);
+    for l in pipe_layout::each_pipe(job) {
         let judged = judge_pipe(friction, initial, l, q, head);
         head = judged.head;
         fits = fits & judged.fits;
-        at = at.past(l.reaches);
     }
     Judged { head, fits }
 }
@@ -110,16 +104,14 @@ fn write_pipe(friction: &[u8], l: Laid, q: f64, h: f64, heads: &mut [f64], flows
         × (flows.new ≡ fill (λ (i : ℕ). q) flows.old l.first_section (l.reaches + 1))) }
 {
     let mut head = h;
-    let mut i = 0;
-    while i < l.reaches {
+    for i in 0..l.reaches {
         let s = l.first_section + i;
         let next = head_past(friction, l, i, q, head);
         heads[s] = head;
         flows[s] = q;
         head = next;
-        i += 1;
     }
-    let last = l.first_section + i;
+    let last = l.first_section + l.reaches;
     heads[last] = head;
     flows[last] = q;
     head
@@ -134,12 +126,8 @@ pub fn write(job: &[u8], level: f64, q: f64, heads: &mut [f64], flows: &mut [f64
         × (flows.new ≡ fill (λ (s : ℕ). q) flows.old 0 (sections j)) }
 {
     let friction = job::tables::friction(job);
-    let count = pipe_layout::pipe_count(job);
     let mut head = level;
-    let mut at = Walk::begun();
-    while at.pipe < count {
-        let l = pipe_layout::pipe_at(job, at);
+    for l in pipe_layout::each_pipe(job) {
         head = write_pipe(friction, l, q, head, heads, flows);
-        at = at.past(l.reaches);
     }
 }

@@ -3,50 +3,62 @@
 
 ghost use Rattle.std.specs.Prelude.{◌∷◌, [], ◌+◌, ◌≤◌, length};
 ghost use Rattle.listing_text.specs.Text.{decimal, printed};
-ghost use Rattle.listing_text.specs.Listing.{closing_text};
-ghost use Rattle.listing_text.specs.InnerContracts.{Written};
+ghost use Rattle.listing_text.specs.Stored.{Stored};
+ghost use Rattle.closing_line.specs.Closing.{closing_of};
 
-use listing_text::{put_newline, put_number, put_text};
+use listing_text::Cursor;
+
+// What the closing line says: the steps done, the steps and the section of a stop, or the number of
+// the question that refused the job, as it is printed.
+#[derive(Clone, Copy, Debug, PartialEq, Eq)]
+pub enum Closing {
+    Done { steps: usize },
+    NotFinite { steps: usize, section: usize },
+    Parted { steps: usize, section: usize },
+    Refused(usize),
+}
 
 // A word, a number and the newline.
-fn put_word_number(word: &[u8], n: usize, at: usize, out: &mut [u8]) -> usize
-    requires { (length word.now ≤ 9) × (at + 72 ≤ length out.old) }
-    ensures written { Written out.old at
-        (printed word.now (decimal n ∷ [])) out.new result }
-    ensures upper_bound { result ≤ at + 72 }
+fn put_word_number(word: &[u8], n: usize, out: &mut Cursor<'_>)
+    requires { (length word.now ≤ 9) × (out.old.at + 72 ≤ length out.old.out.now) }
+    ensures stored { Stored out.old (printed word.now (decimal n ∷ [])) out.new }
+    ensures upper_bound { out.new.at ≤ out.old.at + 72 }
 {
-    let a = put_text(word, at, out);
-    let b = put_number(n, a, out);
-    put_newline(b, out)
+    out.text(word);
+    out.number(n);
+    out.newline();
 }
 
-// A word, two numbers and the newline.
-fn put_word_numbers(word: &[u8], m: usize, n: usize, at: usize, out: &mut [u8]) -> usize
-    requires { (length word.now ≤ 9) × (at + 72 ≤ length out.old) }
-    ensures written { Written out.old at
-        (printed word.now (decimal m ∷ decimal n ∷ [])) out.new result }
-    ensures upper_bound { result ≤ at + 72 }
+// A word, two numbers and the newline. Not one function over a slice of numbers: each is a few lines.
+fn put_word_numbers(word: &[u8], m: usize, n: usize, out: &mut Cursor<'_>)
+    requires { (length word.now ≤ 9) × (out.old.at + 72 ≤ length out.old.out.now) }
+    ensures stored { Stored out.old (printed word.now (decimal m ∷ decimal n ∷ [])) out.new }
+    ensures upper_bound { out.new.at ≤ out.old.at + 72 }
 {
-    let a = put_text(word, at, out);
-    let b = put_number(m, a, out);
-    let c = put_number(n, b, out);
-    put_newline(c, out)
+    out.text(word);
+    out.number(m);
+    out.number(n);
+    out.newline();
 }
 
-// The closing line of an answer: its number, the steps done and the section.
-pub fn put_closing(number: usize, steps: usize, section: usize, at: usize, out: &mut [u8]) -> usize
-    requires { at + 72 ≤ length out.old }
-    ensures written { Written out.old at (closing_text number steps section) out.new result }
-    ensures upper_bound { result ≤ at + 72 }
-{
-    if number == 0 {
-        return put_word_number(b"done", steps, at, out);
+impl Closing {
+    // The line, newline included.
+    #[tactic(auto, unfolding(listing_text::specs::Listing::closing_text))]
+    pub fn put(self, out: &mut Cursor<'_>)
+        requires { out.old.at + 72 ≤ length out.old.out.now }
+        ensures stored { Stored out.old (closing_of self) out.new }
+        ensures upper_bound { out.new.at ≤ out.old.at + 72 }
+    {
+        match self {
+            Closing::Done { steps } => put_word_number(b"done", steps, out),
+            Closing::NotFinite { steps, section } => put_word_numbers(
+                b"notfinite",
+                steps,
+                section,
+                out,
+            ),
+            Closing::Parted { steps, section } => put_word_numbers(b"parted", steps, section, out),
+            Closing::Refused(number) => put_word_number(b"refused", number, out),
+        }
     }
-    if number == 40 {
-        return put_word_numbers(b"notfinite", steps, section, at, out);
-    }
-    if number == 41 {
-        return put_word_numbers(b"parted", steps, section, at, out);
-    }
-    put_word_number(b"refused", number, at, out)
 }

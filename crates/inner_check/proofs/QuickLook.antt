@@ -99,27 +99,25 @@ looked floors w S usual i {cp} {cm} a e d h = record {
   clear = λ is_one k. rw (← e, ← d) (clears floors S usual (i + 1) cp cm a (one_if (is_clear floors (S ⊞ S) i (cp ⊟ cm)) h is_one) k);
 }
 
--- ---- the loop: i of n are looked at
+-- ---- the loop: i are looked at
 
 neither : (a b : Bool) → not a || not b ≡ false → (a ≡ true) × (b ≡ true)
 neither true true h = (refl, refl)
 neither true false h = absurd (true≢false h)
 neither false b h = absurd (true≢false h)
 
-pub record Clearing (p : ℕ → Bool) (n i count : ℕ) (odd-sum even_sum : Float) : Type 0 where
-  pub within : i ≤ n
+pub record Clearing (p : ℕ → Bool) (i count : ℕ) (odd-sum even_sum : Float) : Type 0 where
   pub few : count ≤ i
   pub all_clear : count ≡ i → finite odd-sum ≡ true → finite even_sum ≡ true → all_below p i ≡ true
 
-module _ (p : ℕ → Bool) {n : ℕ} where
-  pub clearing_none : (odd-sum even_sum : Float) → Clearing p n 0 0 odd-sum even_sum
-  clearing_none odd-sum even_sum = record { within = omega arith; few = omega arith; all_clear = λ z a b. all_none p }
+module _ (p : ℕ → Bool) where
+  pub clearing_none : (odd-sum even_sum : Float) → Clearing p 0 0 odd-sum even_sum
+  clearing_none odd-sum even_sum = record { few = omega arith; all_clear = λ z a b. all_none p }
 
   pub two_cleared :
-      {i : ℕ} (odd even : ℕ) {v u : ℕ} (odd-sum even_sum x y : Float) → Clearing p n i (odd + even) odd-sum even_sum → i + 2 ≤ n
-      → Looked (p i) v x → Looked (p (i + 1)) u y → Clearing p n (i + 2) (odd + v + (even + u)) (odd-sum ⊞ x) (even_sum ⊞ y)
-  two_cleared {i} odd even {v} {u} odd-sum even_sum x y c l first second = record {
-    within = l;
+      {i : ℕ} (odd even : ℕ) {v u : ℕ} (odd-sum even_sum x y : Float) → Clearing p i (odd + even) odd-sum even_sum
+      → Looked (p i) v x → Looked (p (i + 1)) u y → Clearing p (i + 2) (odd + v + (even + u)) (odd-sum ⊞ x) (even_sum ⊞ y)
+  two_cleared {i} odd even {v} {u} odd-sum even_sum x y c first second = record {
     few = omega (arith, c.few, first.one, second.one);
     all_clear = λ z a b.
         let s : i + 2 ≡ i + 1 + 1 = omega arith in
@@ -131,9 +129,9 @@ module _ (p : ℕ → Bool) {n : ℕ} where
 
   -- by the test of the code after the turns: none of those that it looked at has a fault
   pub clearing_done :
-      {i count : ℕ} {odd-sum even_sum : Float} → Clearing p n i count odd-sum even_sum
-      → not (eq (odd-sum ⊟ odd-sum) (even_sum ⊟ even_sum)) || not (eqb count i) ≡ false → Counting p n i 0
+      {i count : ℕ} {odd-sum even_sum : Float} → Clearing p i count odd-sum even_sum
+      → not (eq (odd-sum ⊟ odd-sum) (even_sum ⊟ even_sum)) || not (eqb count i) ≡ false → Counting p i 0
   clearing_done {i} {count} {odd-sum} {even_sum} c h =
       let t = neither (eq (odd-sum ⊟ odd-sum) (even_sum ⊟ even_sum)) (eqb count i) h in
       let f = both (finite odd-sum) (finite even_sum) (sym (both_finite odd-sum even_sum) ∙ t.0) in
-      record { within = c.within; few = omega arith; told = sym (c.all_clear (eqb-true count i t.1) f.0 f.1) }
+      record { few = omega arith; told = sym (c.all_clear (eqb-true count i t.1) f.0 f.1) }

@@ -8,11 +8,7 @@ use lib.Ieee.{Float}
 use Rattle.section.specs.SectionRows.{two_of, SteppedRows}
 use Rattle.section.proofs.RowLaws.{SteppedTo, stepped_more, stepped_one_more, heads_kept, flows_kept}
 use Rattle.inner_sections.specs.declared.TwoCp.{TwoCp}
-use Rattle.inner_sections.specs.InnerSections.{one_pipe, cp_at, cm_at, two_cp_at, by_cp, two_by_cp, inner_at, CutToPipe}
-
--- rows after stores are cut to the pipe as before
-pub still_cut : {friction : List ℕ} {n m k l : ℕ} → CutToPipe friction n m → k ≡ n → l ≡ m → CutToPipe friction k l
-still_cut c e d = rw (e, d) c
+use Rattle.inner_sections.specs.InnerSections.{one_pipe, cp_at, cm_at, two_cp_at, by_cp, two_by_cp, inner_at}
 
 module _ (friction : List ℕ) (S : Float) {heads flows highest lowest nowHeads nowFlows nowHighest nowLowest : List Float} {n : ℕ}
     (u : SteppedTo (inner_at (one_pipe friction heads flows) S) 1 n heads flows highest lowest nowHeads nowFlows nowHighest nowLowest) where

@@ -4,9 +4,9 @@
 
 ghost use Rattle.std.specs.Prelude.{◌≡◌, ℕ, ◌+◌, ◌-◌, ◌<◌, ◌≤◌, length};
 ghost use Rattle.section.specs.SectionRows.{Stepped};
-ghost use Rattle.inner_sections.specs.InnerSections as pipe;
+ghost use Rattle.inner_sections.specs.InnerSections as inner;
 
-use inner_sections::TwoCp;
+use inner_sections::{CutPipe, TwoCp};
 
 // Overwrites section i + 1 by its CP and the entries of the section below it, and takes its head into
 // both envelopes.
@@ -20,14 +20,14 @@ fn write_one(
     highest: &mut [f64],
     lowest: &mut [f64],
 )
-    requires cut_to_pipe { (pipe.CutToPipe friction.now (length heads.old) (length flows.old))
+    requires cut_to_pipe { (inner.CutToPipe friction.now (length heads.old) (length flows.old))
         × (i + 2 < length heads.old) }
     requires heads_in_bounds { (length heads.old ≤ length highest.old) × (length heads.old ≤ length lowest.old) }
     ensures { Stepped (λ (k : ℕ).
-        pipe.by_cp (pipe.one_pipe friction.now heads.old flows.old) s cp i)
+        inner.by_cp (inner.one_pipe friction.now heads.old flows.old) s cp i)
         (i + 1) 1 heads flows highest lowest }
 {
-    let x = inner_sections::by_cp(friction, s, i, cp, heads, flows);
+    let x = CutPipe::new(friction, s, heads, flows).by_cp(i, cp);
     section::store(i + 1, x, heads, flows, highest, lowest);
 }
 
@@ -44,20 +44,21 @@ fn write_two(
     highest: &mut [f64],
     lowest: &mut [f64],
 ) -> TwoCp
-    requires cut_to_pipe { (pipe.CutToPipe friction.now (length heads.old) (length flows.old))
+    requires cut_to_pipe { (inner.CutToPipe friction.now (length heads.old) (length flows.old))
         × (i + 4 < length heads.old) }
     requires heads_in_bounds { (length heads.old ≤ length highest.old) × (length heads.old ≤ length lowest.old) }
     ensures { (result
-        ≡ pipe.two_cp_at (pipe.one_pipe friction.now heads.old flows.old) s (i + 2))
-        × Stepped (pipe.two_by_cp
-        (pipe.one_pipe friction.now heads.old flows.old) s cp i)
+        ≡ inner.two_cp_at (inner.one_pipe friction.now heads.old flows.old) s (i + 2))
+        × Stepped (inner.two_by_cp
+        (inner.one_pipe friction.now heads.old flows.old) s cp i)
         (i + 1) 2 heads flows highest lowest }
 {
     let here = i + 1;
     let next = i + 2;
     let after = next + 1;
-    let x = inner_sections::by_cp(friction, s, i, cp.first, heads, flows);
-    let y = inner_sections::by_cp(friction, s, here, cp.second, heads, flows);
+    let pipe = CutPipe::new(friction, s, heads, flows);
+    let x = pipe.by_cp(i, cp.first);
+    let y = pipe.by_cp(here, cp.second);
     let above = section::read(next, heads, flows);
     let below = section::read(after, heads, flows);
     section::store_two(here, x, y, heads, flows, highest, lowest);
@@ -84,17 +85,18 @@ fn commit_twos(
     highest: &mut [f64],
     lowest: &mut [f64],
 ) -> Carried
-    requires cut_to_pipe { (pipe.CutToPipe friction.now (length heads.old) (length flows.old))
+    requires cut_to_pipe { (inner.CutToPipe friction.now (length heads.old) (length flows.old))
         × (3 ≤ length heads.old) }
     requires heads_in_bounds { (length heads.old ≤ length highest.old) × (length heads.old ≤ length lowest.old) }
     ensures { (result.done + 3 ≤ length heads.old) × (length heads.old ≤ result.done + 4)
-        × (result.cp ≡ pipe.two_cp_at
-        (pipe.one_pipe friction.now heads.old flows.old) s result.done)
-        × Stepped (pipe.inner_at
-        (pipe.one_pipe friction.now heads.old flows.old) s)
+        × (result.cp ≡ inner.two_cp_at
+        (inner.one_pipe friction.now heads.old flows.old) s result.done)
+        × Stepped (inner.inner_at
+        (inner.one_pipe friction.now heads.old flows.old) s)
         1 result.done heads flows highest lowest }
 {
-    let mut cp = inner_sections::two_cp(friction, s, 0, heads, flows);
+    let mut cp = CutPipe::new(friction, s, heads, flows).two_cp(0);
+    // A `while`: i is asked for after the turns, and no range tells where it ended.
     let mut i = 0;
     while i + 4 < heads.len() {
         cp = write_two(friction, s, i, cp, heads, flows, highest, lowest);
@@ -113,10 +115,10 @@ pub fn commit(
     highest: &mut [f64],
     lowest: &mut [f64],
 )
-    requires cut_to_pipe { pipe.CutToPipe friction.now (length heads.old) (length flows.old) }
+    requires cut_to_pipe { inner.CutToPipe friction.now (length heads.old) (length flows.old) }
     requires heads_in_bounds { (length heads.old ≤ length highest.old) × (length heads.old ≤ length lowest.old) }
-    ensures { Stepped (pipe.inner_at
-        (pipe.one_pipe friction.now heads.old flows.old) s)
+    ensures { Stepped (inner.inner_at
+        (inner.one_pipe friction.now heads.old flows.old) s)
         1 (length heads.old - 2) heads flows highest lowest }
 {
     if heads.len() < 3 {

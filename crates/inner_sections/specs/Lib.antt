@@ -1,1 +1,2 @@
 pub mod InnerSections
+pub mod CutPipes

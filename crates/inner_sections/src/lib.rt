@@ -1,5 +1,4 @@
-// The inner sections of a pipe, from rows cut to it; friction is its own part of table 3, floors that of
-// table 4. CP is a section's characteristic from above, CM that from below.
+// The inner sections of a pipe, from rows cut to it. CP is a section's characteristic from above, CM that from below.
 #![tactic(auto)]
 
 ghost use Rattle.std.specs.Prelude.{◌≡◌, true, ◌+◌, ◌*◌, ◌<◌, ◌≤◌, length};
@@ -26,37 +25,6 @@ pub fn cp_along(friction: &[u8], s: f64, i: usize, above: HeadFlow) -> f64
     wave::from_above(s, friction_at(friction, i), above.head, above.flow)
 }
 
-// CP of section i + 1.
-pub fn cp_at(friction: &[u8], s: f64, i: usize, heads: &[f64], flows: &[f64]) -> f64
-    requires { (pipe.CutToPipe friction.now (length heads.now) (length flows.now))
-        × (i + 1 < length heads.now) }
-    ensures { result
-        ≡ pipe.cp_at (pipe.one_pipe friction.now heads.now flows.now) s i }
-{
-    cp_along(friction, s, i, section::read(i, heads, flows))
-}
-
-// CM of section i + 1.
-pub fn cm_at(friction: &[u8], s: f64, i: usize, heads: &[f64], flows: &[f64]) -> f64
-    requires { (pipe.CutToPipe friction.now (length heads.now) (length flows.now))
-        × (i + 2 < length heads.now) }
-    ensures { result
-        ≡ pipe.cm_at (pipe.one_pipe friction.now heads.now flows.now) s i }
-{
-    let below = section::read(i + 2, heads, flows);
-    wave::from_below(s, friction_at(friction, i + 1), below.head, below.flow)
-}
-
-// Section i + 1 after the step, from its CP.
-pub fn by_cp(friction: &[u8], s: f64, i: usize, cp: f64, heads: &[f64], flows: &[f64]) -> HeadFlow
-    requires { (pipe.CutToPipe friction.now (length heads.now) (length flows.now))
-        × (i + 2 < length heads.now) }
-    ensures { result
-        ≡ pipe.by_cp (pipe.one_pipe friction.now heads.now flows.now) s cp i }
-{
-    wave::inner(s, cp, cm_at(friction, s, i, heads, flows))
-}
-
 // CP of two sections, one after the other.
 #[derive(Clone, Copy)]
 pub struct TwoCp {
@@ -64,15 +32,84 @@ pub struct TwoCp {
     pub second: f64,
 }
 
-// CP of sections i + 1 and i + 2.
-pub fn two_cp(friction: &[u8], s: f64, i: usize, heads: &[f64], flows: &[f64]) -> TwoCp
-    requires { (pipe.CutToPipe friction.now (length heads.now) (length flows.now))
-        × (i + 2 < length heads.now) }
-    ensures { result
-        ≡ pipe.two_cp_at (pipe.one_pipe friction.now heads.now flows.now) s i }
-{
-    TwoCp {
-        first: cp_at(friction, s, i, heads, flows),
-        second: cp_at(friction, s, i + 1, heads, flows),
+// A pipe before a step: its own part of table 3, S, and the rows of heads and flows cut to it.
+#[derive(Clone, Copy)]
+pub struct CutPipe<'a> {
+    friction: &'a [u8],
+    pub s: f64,
+    heads: &'a [f64],
+    flows: &'a [f64],
+    pub ghost cut: { pipe.CutToPipe friction.now (length heads.now) (length flows.now) },
+}
+
+impl<'a> CutPipe<'a> {
+    ghost use Rattle.inner_sections.specs.CutPipes.{along, section_count};
+
+    // The pipe of these rows.
+    pub fn new(friction: &'a [u8], s: f64, heads: &'a [f64], flows: &'a [f64]) -> CutPipe<'a>
+        requires { pipe.CutToPipe friction.now (length heads.now) (length flows.now) }
+        ensures along { along result ≡ pipe.one_pipe friction.now heads.now flows.now }
+        ensures s { result.s ≡ s }
+        ensures count { section_count result ≡ length heads.now }
+    {
+        CutPipe {
+            friction,
+            s,
+            heads,
+            flows,
+        }
+    }
+
+    // How many sections it has.
+    pub fn section_count(&self) -> usize
+        ensures { result ≡ section_count self.now }
+    {
+        self.heads.len()
+    }
+
+    // CP of section i + 1.
+    pub fn cp_at(&self, i: usize) -> f64
+        requires { i + 1 < section_count self.now }
+        ensures { result ≡ pipe.cp_at (along self.now) self.now.s i }
+    {
+        cp_along(
+            self.friction,
+            self.s,
+            i,
+            section::read(i, self.heads, self.flows),
+        )
+    }
+
+    // CM of section i + 1.
+    pub fn cm_at(&self, i: usize) -> f64
+        requires { i + 2 < section_count self.now }
+        ensures { result ≡ pipe.cm_at (along self.now) self.now.s i }
+    {
+        let below = section::read(i + 2, self.heads, self.flows);
+        wave::from_below(
+            self.s,
+            friction_at(self.friction, i + 1),
+            below.head,
+            below.flow,
+        )
+    }
+
+    // Section i + 1 after the step, from its CP.
+    pub fn by_cp(&self, i: usize, cp: f64) -> HeadFlow
+        requires { i + 2 < section_count self.now }
+        ensures { result ≡ pipe.by_cp (along self.now) self.now.s cp i }
+    {
+        wave::inner(self.s, cp, self.cm_at(i))
+    }
+
+    // CP of sections i + 1 and i + 2.
+    pub fn two_cp(&self, i: usize) -> TwoCp
+        requires { i + 2 < section_count self.now }
+        ensures { result ≡ pipe.two_cp_at (along self.now) self.now.s i }
+    {
+        TwoCp {
+            first: self.cp_at(i),
+            second: self.cp_at(i + 1),
+        }
     }
 }

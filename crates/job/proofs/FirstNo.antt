@@ -5,8 +5,11 @@ use mathlib.Core.List.{List, [], ◌∷◌, ◌++◌}
 use Prim.Native.Nat.{ℕ, suc, ◌≤◌}
 use native.Mathlib.Omega.{arith}
 use lib.Dec.{eqb, leb}
-use borrow.Author.Tests.{eqb-true, eqb-false, eq-eqb, ne_eqb, leb-true}
+use borrow.Author.Tests.{eqb-true, eqb-false, leb-true}
 use Rattle.loops.proofs.Tests.{both, cond_all}
+use Rattle.job.specs.declared.questions.Question.{Question as Asked}
+use Rattle.job.specs.declared.questions.Question.TheVariants.{Size, PairCount, TablesInOrder, ListingSteps, PipesWhole, NodesWhole, PipesJoin, SectionCount, PipeConstants, NodeKinds, NodeFigures, NodesMet, Friction, InitialState, Schedules, LentLengths, StepsInAll, LentState, ScheduleCounts, Chain, SettingRows, Trips}
+use Rattle.job.specs.Refusals.{number}
 use Rattle.job.specs.Questions.{Question, first_no, pair_questions, pipe_questions, node_questions, value_questions, questions, refusal, Accepted}
 
 -- m, and n where m is 0
@@ -41,12 +44,9 @@ refusal_is job =
     first_join pair_questions (pipe_questions ++ (node_questions ++ value_questions)) job refl
     ∙ rw (first_join pipe_questions (node_questions ++ value_questions) job refl, first_join node_questions value_questions job refl)
 
--- an answer r of the first part decides, or where it is 0 leaves it to the parts after it
-pub decides : {m r : ℕ} (n : ℕ) → r ≡ m → (r ≡ 0 → ⊥) → r ≡ or_else m n
-decides {m} {r} n e h = rw (← e, ne_eqb r 0 h)
-
-pub goes_on : {m n r : ℕ} → r ≡ m → r ≡ 0 → n ≡ or_else m n
-goes_on {m} {n} {r} e h = rw (← e, eq-eqb r 0 h)
+-- no question has the number 0
+pub number_some : (q : Asked) → eqb (number q) 0 ≡ false
+number_some q = elim q as (λ a. eqb (number a) 0 ≡ false) [ Size ↦ refl | PairCount ↦ refl | TablesInOrder ↦ refl | ListingSteps ↦ refl | PipesWhole ↦ refl | NodesWhole ↦ refl | PipesJoin ↦ refl | SectionCount ↦ refl | PipeConstants ↦ refl | NodeKinds ↦ refl | NodeFigures ↦ refl | NodesMet ↦ refl | Friction ↦ refl | InitialState ↦ refl | Schedules ↦ refl | LentLengths ↦ refl | StepsInAll ↦ refl | LentState ↦ refl | ScheduleCounts ↦ refl | Chain ↦ refl | SettingRows ↦ refl | Trips ↦ refl ]
 
 none_of_both : (m n : ℕ) → or_else m n ≡ 0 → (m ≡ 0) × (n ≡ 0)
 none_of_both m n = go (eqb m 0) refl

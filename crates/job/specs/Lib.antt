@@ -1,7 +1,9 @@
 pub mod Job
 pub mod Format
 pub mod Questions
+pub mod NodeKinds
 pub mod QuestionParts
+pub mod Refusals
 pub mod TableEntries
 pub mod Walk
 pub mod JobQ

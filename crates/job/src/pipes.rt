@@ -11,7 +11,7 @@ pub fn start(pipes: &[u8], p: usize) -> usize
     requires { p < pipe_count pipes.now }
     ensures { (result ≡ (pipe_in pipes.now p).start) × (result < 256) }
 {
-    fields::index(pipes[p * 12])
+    usize::from(pipes[p * 12])
 }
 
 // The finish node of pipe p.
@@ -19,7 +19,7 @@ pub fn finish(pipes: &[u8], p: usize) -> usize
     requires { p < pipe_count pipes.now }
     ensures { (result ≡ (pipe_in pipes.now p).finish) × (result < 256) }
 {
-    fields::index(pipes[p * 12 + 1])
+    usize::from(pipes[p * 12 + 1])
 }
 
 // The number of reaches of pipe p.
@@ -46,8 +46,8 @@ pub fn ends(pipes: &[u8]) -> Walk
 {
     let count = pipes.len() / 12;
     let mut at = Walk::begun();
-    while at.pipe < count {
-        at = at.past(reaches(pipes, at.pipe));
+    for p in 0..count {
+        at = at.past(reaches(pipes, p));
     }
     at
 }

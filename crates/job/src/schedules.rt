@@ -12,7 +12,7 @@ pub fn count_byte(nodes: &[u8], node: usize) -> usize
     requires { node < node_count nodes.now }
     ensures { (result ≡ count_byte nodes.now node) × (result < 256) }
 {
-    fields::index(nodes[node * 26 + 1])
+    usize::from(nodes[node * 26 + 1])
 }
 
 // The count that table 6 holds for a node.

@@ -4,14 +4,15 @@
 
 ghost use Rattle.std.specs.Prelude.{◌≤◌, ◌<◌, length};
 
-use reader::Read;
+use job::questions::Question;
+use reader::Held;
 use std::io;
-use std::io::{Read as _, Stdin};
+use std::io::{Read, Stdin};
 
-fn show(rt: &impl Print, answer: Read) -> io::Result<()> {
+fn show(rt: &impl Print, answer: Result<Held, Question>) -> io::Result<()> {
     match answer {
-        Read::Refused(n) => println!(rt; "refused {n}"),
-        Read::Accepted { sections, steps } => println!(rt; "accepted {sections} {steps}"),
+        Err(question) => println!(rt; "refused {question}"),
+        Ok(Held { sections, steps }) => println!(rt; "accepted {sections} {steps}"),
     }
 }
 

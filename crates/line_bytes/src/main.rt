@@ -3,81 +3,50 @@
 // and prints after each call how long the part is and all 128 bytes, those past the slice too.
 #![tactic(auto)]
 
-ghost use Rattle.std.specs.Prelude.{◌+◌, ◌≤◌, length};
+ghost use Rattle.std.specs.Prelude.{◌≤◌, length};
 
+use listing::Line;
 use std::io;
 use std::io::Read;
 
-// The number of a pattern; of a NaN's, a NaN worked out, since no operation makes a number of one.
+// The number of a pattern; of a NaN's, the constant, since no operation makes a number of one.
 fn number(b: u64) -> f64 {
     if b % 0x8000_0000_0000_0000 > 0x7ff0_0000_0000_0000 {
-        let zero = 0.0f64;
-        return zero / zero;
+        return f64::NAN;
     }
     f64::from_bits(b)
 }
 
-fn wide(x: u8) -> usize {
-    x as usize
-}
-
 // The line call on the first `lent` bytes: how long the part is that it hands back.
-fn part_length(
-    section: usize,
-    head: f64,
-    flow: f64,
-    highest: f64,
-    lowest: f64,
-    lent: usize,
-    bytes: &mut [u8],
-) -> usize
+fn part_length(line: Line, lent: usize, bytes: &mut [u8]) -> usize
     requires { lent ≤ length bytes.old }
 {
-    let part = listing::line(section, head, flow, highest, lowest, &mut bytes[0..lent]);
-    part.len()
+    line.part(&mut bytes[..lent]).len()
 }
 
 // One call.
-fn show(
-    rt: &impl Print,
-    section: usize,
-    head: f64,
-    flow: f64,
-    highest: f64,
-    lowest: f64,
-    lent: usize,
-    mark: u8,
-) -> io::Result<()>
+fn show(rt: &impl Print, line: Line, lent: usize, mark: u8) -> io::Result<()>
     requires { lent ≤ 128 }
 {
     let mut bytes = [mark; 128];
-    let n = part_length(section, head, flow, highest, lowest, lent, &mut bytes);
+    let n = part_length(line, lent, &mut bytes);
     println!(rt; "{n}")?;
     rt.write_all(&bytes)?;
     println!(rt)
 }
 
-// The case that begins at a place.
-fn show_case(rt: &impl Print, cases: &[u8], at: usize) -> io::Result<()>
-    requires { at + 42 ≤ length cases.now }
-{
-    let section = fields::u64_at(cases, at) as usize;
-    let head = number(fields::u64_at(cases, at + 8));
-    let flow = number(fields::u64_at(cases, at + 16));
-    let highest = number(fields::u64_at(cases, at + 24));
-    let lowest = number(fields::u64_at(cases, at + 32));
-    let lent = wide(cases[at + 40]);
+// One case.
+fn show_case(rt: &impl Print, case: &[u8; 42]) -> io::Result<()> {
+    let line = Line {
+        section: fields::u64_at(case, 0) as usize,
+        head: number(fields::u64_at(case, 8)),
+        flow: number(fields::u64_at(case, 16)),
+        highest: number(fields::u64_at(case, 24)),
+        lowest: number(fields::u64_at(case, 32)),
+    };
+    let lent = usize::from(case[40]);
     if lent <= 128 {
-        show(
-            rt,
-            section,
-            head,
-            flow,
-            highest,
-            lowest,
-            lent,
-            cases[at + 41],
-        )?;
+        show(rt, line, lent, case[41])?;
     }
     Ok(())
 }
@@ -90,7 +59,7 @@ fn main(rt: HostRuntime) -> io::Result<()> {
         if input.read_exact(&mut case).is_err() {
             break;
         }
-        show_case(&rt, &case, 0)?;
+        show_case(&rt, &case)?;
     }
     Ok(())
 }

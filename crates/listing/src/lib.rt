@@ -3,97 +3,93 @@
 
 ghost use Rattle.std.specs.Prelude.{◌≡◌, ◌∷◌, [], ◌++◌, ◌+◌, ◌≤◌, ◌<◌, length};
 ghost use Rattle.listing_text.specs.Text.{pattern, following};
-ghost use Rattle.listing_text.specs.Listing.{line_text, closing_text, lines_text, line_written, AtFront};
-ghost use Rattle.listing_text.specs.InnerContracts.{Written, Listable, row_line};
+ghost use Rattle.listing_text.specs.Listing.{line_text, lines_text, line_written, AtFront};
+ghost use Rattle.listing_text.specs.InnerContracts.{Listable, row_line};
+ghost use Rattle.listing_text.specs.Stored.{Stored};
+ghost use Rattle.closing_line.specs.Closing.{closing_of};
 
-use closing_line::put_closing;
-use listing_text::{put_decimal, put_newline, put_pattern};
+use closing_line::Closing;
+use listing_text::Cursor;
 
 // The bytes that question 24 asks for: a line has at most 3 digits, four fields of 17 and the newline.
 const LINE: usize = 72;
 
-// What a section's line has after the number.
-fn put_values(head: f64, flow: f64, highest: f64, lowest: f64, at: usize, out: &mut [u8]) -> usize
-    requires { at + 69 ≤ length out.old }
-    ensures written { Written out.old at
-        (following (pattern head ∷ pattern flow ∷ pattern highest ∷ pattern lowest ∷ [])) out.new result }
-    ensures value { result ≡ at + 69 }
-{
-    let a = put_pattern(head, at, out);
-    let b = put_pattern(flow, a, out);
-    let c = put_pattern(highest, b, out);
-    let d = put_pattern(lowest, c, out);
-    put_newline(d, out)
+// A section's line: its number and the four values that the run left there.
+#[derive(Clone, Copy, Debug, PartialEq)]
+pub struct Line {
+    pub section: usize,
+    pub head: f64,
+    pub flow: f64,
+    pub highest: f64,
+    pub lowest: f64,
 }
 
-// A section's line.
-fn put_line(
-    section: usize,
-    head: f64,
-    flow: f64,
-    highest: f64,
-    lowest: f64,
-    at: usize,
-    out: &mut [u8],
-) -> usize
-    requires section_bound { section < 512 }
-    requires at_in_bounds { at + 72 ≤ length out.old }
-    ensures written { Written out.old at
-        (line_text section head flow highest lowest) out.new result }
-    ensures upper_bound { result ≤ at + 72 }
-{
-    let next = put_decimal(section, at, out);
-    put_values(head, flow, highest, lowest, next, out)
-}
-
-// Writes a section's line at the front of `out` and answers how many bytes it takes; 0, with `out`
-// as it was, for question 24's no.
-pub fn write_line(
-    section: usize,
-    head: f64,
-    flow: f64,
-    highest: f64,
-    lowest: f64,
-    out: &mut [u8],
-) -> usize
-    ensures { AtFront (line_written section head flow highest lowest (length out.old))
-        out.old result out.new }
-{
-    if section >= 512 {
-        return 0;
+impl Line {
+    // What the line has after the number.
+    fn put_values(self, out: &mut Cursor<'_>)
+        requires { out.old.at + 69 ≤ length out.old.out.now }
+        ensures stored { Stored out.old (following (pattern self.head ∷ pattern self.flow
+            ∷ pattern self.highest ∷ pattern self.lowest ∷ [])) out.new }
+        ensures value { out.new.at ≡ out.old.at + 69 }
+    {
+        out.pattern(self.head);
+        out.pattern(self.flow);
+        out.pattern(self.highest);
+        out.pattern(self.lowest);
+        out.newline();
     }
-    if out.len() < LINE {
-        return 0;
-    }
-    put_line(section, head, flow, highest, lowest, 0, out)
-}
 
-// The line call: the part of `out` that holds the section's line, newline included; an empty part
-// for question 24's no. It begins where `out` begins. Its clauses do not speak of `out` after a part of
-// it is handed back: that the bytes after the part keep what they held is said by the contract of
-// `write_line`, which this calls, and tested of `line` itself by the program `line_bytes`.
-pub fn line<'a>(
-    section: usize,
-    head: f64,
-    flow: f64,
-    highest: f64,
-    lowest: f64,
-    out: &'a mut [u8],
-) -> &'a mut [u8]
-    ensures result_value { result.now ≡ line_written section head flow highest lowest (length out.old) }
-    ensures ref_ptr_value { result.ref_ptr ≡ out.entry.ref_ptr }
-{
-    let n = write_line(section, head, flow, highest, lowest, out);
-    &mut out[0..n]
+    // The line, newline included.
+    #[tactic(auto, using(listing_text::proofs::Digits::three_at_most))]
+    fn put(self, out: &mut Cursor<'_>)
+        requires section_bound { self.section < 512 }
+        requires at_in_bounds { out.old.at + 72 ≤ length out.old.out.now }
+        ensures stored { Stored out.old
+            (line_text self.section self.head self.flow self.highest self.lowest) out.new }
+        ensures upper_bound { out.new.at ≤ out.old.at + 72 }
+    {
+        out.decimal(self.section);
+        self.put_values(out);
+    }
+
+    // Writes the line at the front of `out` and answers how many bytes it takes; 0, with `out` as it
+    // was, for question 24's no.
+    pub fn write(self, out: &mut [u8]) -> usize
+        ensures { AtFront (line_written self.section self.head self.flow self.highest self.lowest
+            (length out.old)) out.old result out.new }
+    {
+        if self.section >= 512 {
+            return 0;
+        }
+        if out.len() < LINE {
+            return 0;
+        }
+        let mut text = Cursor::new(out);
+        self.put(&mut text);
+        text.count()
+    }
+
+    // The line call: the part of `out` that holds the line, newline included; an empty part for
+    // question 24's no. It begins where `out` begins. No clause says what `out` ends as: a `Lends`
+    // is proved only of a body that hands on a field or a call's result, and std has no call that
+    // lends one part of a slice (that of `split_at_mut` is one of two). That the bytes after the
+    // part keep what they held is said by the contract of `write`, which this calls, and tested of
+    // `part` itself by the program `line_bytes`.
+    pub fn part(self, out: &mut [u8]) -> &mut [u8]
+        ensures result_value { result.now ≡ line_written self.section self.head self.flow
+            self.highest self.lowest (length out.old) }
+        ensures ref_ptr_value { result.ref_ptr ≡ out.entry.ref_ptr }
+    {
+        let n = self.write(out);
+        &mut out[..n]
+    }
 }
 
 // Writes the lines of the sections 0 to count - 1 and a closing line at the front of `out`, and
 // answers how many bytes they take. An inner call: the program lends rows and room enough.
 pub fn write_listing(
     count: usize,
-    number: usize,
-    steps: usize,
-    section: usize,
+    closing: Closing,
     heads: &[f64],
     flows: &[f64],
     highest: &[f64],
@@ -103,14 +99,19 @@ pub fn write_listing(
     requires { Listable count heads.now flows.now highest.now lowest.now out.old }
     ensures { let line = row_line heads.now flows.now
         highest.now lowest.now in
-        AtFront (lines_text line count ++ closing_text number steps section)
-        out.old result out.new }
+        AtFront (lines_text line count ++ closing_of closing) out.old result out.new }
 {
-    let mut at = 0;
-    let mut s = 0;
-    while s < count {
-        at = put_line(s, heads[s], flows[s], highest[s], lowest[s], at, out);
-        s += 1;
+    let mut text = Cursor::new(out);
+    for section in 0..count {
+        let line = Line {
+            section,
+            head: heads[section],
+            flow: flows[section],
+            highest: highest[section],
+            lowest: lowest[section],
+        };
+        line.put(&mut text);
     }
-    put_closing(number, steps, section, at, out)
+    closing.put(&mut text);
+    text.count()
 }

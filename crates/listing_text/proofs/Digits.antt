@@ -1,28 +1,31 @@
 -- The digits of a number and how many it has: each step of the definitions is a division by the base. Assumes nothing.
 use mathlib.Core.Path.{◌≡◌, refl, sym, ap, ◌∙◌}
-use mathlib.Core.List.{List}
-use Prim.Native.Nat.{ℕ, zero, suc, ◌+◌, ◌-◌, ◌/◌, ◌%◌, ◌^◌, ◌≤◌, ◌<◌, suc-le-suc}
-use native.Mathlib.Nat.{pow-suc, div-lt_iff_lt-mul}
+use mathlib.Core.List.{List, ◌++◌, [], ◌∷◌}
+use Prim.Native.Nat.{ℕ, zero, suc, ◌-◌, ◌*◌, ◌/◌, ◌%◌, ◌^◌, ◌≤◌, ◌<◌, suc-le-suc}
+use native.Mathlib.Numerals.{add-one}
+use native.Mathlib.Nat.{one-le-pow, pow-suc, div-lt_iff_lt-mul}
 use native.Mathlib.Decide.{dec_lt}
 use native.Mathlib.Omega.{arith}
 use borrow.Author.Tests.{lt-ltb, le-ltb}
-use lib.ListN.{length, set, length-append}
-use lib.Seq.{sets}
+use Rattle.std.proofs.Common.{max, lit<}
+use Rattle.std.proofs.lemmas.Nat.{le-div}
+use lib.ListN.{length, drop, set, length-append}
+use Rattle.std.proofs.lemmas.List.{append_assoc, drop-set}
 use Rattle.listing_text.specs.Text.{digit, digits, places_within, places}
-use Rattle.listing_text.proofs.StoredTexts.{last_first}
 
 pub length_digits : (n base count : ℕ) → length (digits n base count) ≡ count
 unfolding digits
 length_digits n base zero = refl
 length_digits n base (suc count) = length-append (digits (n / base) base count) _ ∙ rw (length_digits (n / base) base count) (omega arith)
 
--- the lowest digit first, and then the digits before it
-pub lowest_first : (n base i at : ℕ) (l : List ℕ) → 0 < i → sets (set l (at + (i - 1)) (digit (n % base))) at (digits (n / base) base (i - 1)) ≡ sets l at (digits n base i)
+-- the lowest digit is stored in front of the lower ones, and is the last of the digits before it
+pub digit_in_front : (n base i : ℕ) (field : List ℕ) → 0 < i → i ≤ length field
+    → digits (n / base) base (i - 1) ++ drop (i - 1) (set field (i - 1) (digit (n % base))) ≡ digits n base i ++ drop i field
 unfolding digits
-lowest_first n base zero at l h = absurd (omega arith)
-lowest_first n base (suc j) at l h =
+digit_in_front n base zero field h fits = absurd (omega arith)
+digit_in_front n base (suc j) field h fits =
     let e : suc j - 1 ≡ j = omega arith in
-    rw e (rw (length_digits (n / base) base j) at (last_first (digits (n / base) base j) l at (digit (n % base))))
+    rw (e, drop-set field j (digit (n % base)) fits, add-one j) (sym (append_assoc (digits (n / base) base j) (digit (n % base) ∷ []) (drop (suc j) field)))
 
 -- ---- how many decimal digits a number has
 
@@ -60,3 +63,25 @@ places_bound (suc p) n h =
       | yes s ↦ rw (places_few n s) (omega arith)
       | no b ↦ rw (places_more n (omega arith)) (suc-le-suc (places_bound p (n / 10) ((div-lt_iff_lt-mul (omega arith)).1 (rw pow-suc at h))))
     ]
+
+-- and one that is not below 10 ^ p, more than p
+pub places_exactly : (p n : ℕ) → 10 ^ p ≤ n → n < 10 ^ suc p → places n ≡ suc p
+places_exactly zero n low high = places_few n high
+places_exactly (suc p) n low high =
+    let tenth : n / 10 < 10 ^ suc p = (div-lt_iff_lt-mul (lit< tt)).1 (rw pow-suc at high) in
+    let tens : 10 ^ p * 10 ≤ n = rw pow-suc at low in
+    let one : 1 ≤ 10 ^ p = one-le-pow p 10 (lit< tt) in
+    places_more n (omega (arith, one, tens)) ∙ ap suc (places_exactly p (n / 10) (le-div (10 ^ p) n 10 (lit< tt) tens) tenth)
+
+pub places_of_max : (n : ℕ) → places (max n 1) ≡ places n
+places_of_max zero = places_few 1 (omega arith) ∙ sym (places_few 0 (omega arith))
+places_of_max (suc n) =
+    let e : max (suc n) 1 ≡ suc n = omega arith in
+    ap places e
+
+-- sections, and numbers of 64 bits
+pub three_at_most : (n : ℕ) → n < 512 → places n ≤ 3
+three_at_most n h = places_bound 2 n (omega (arith, h))
+
+pub twenty_at_most : (n : ℕ) → n < 2 ^ 64 → places n ≤ 20
+twenty_at_most n h = places_bound 19 n (omega (arith, h))

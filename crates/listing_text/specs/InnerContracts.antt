@@ -1,13 +1,7 @@
--- Inner definitions: no public call cites them. What the inner calls ask of rows and leave in a lent slice. Definitions only.
-use Rattle.std.specs.Prelude.{◌≡◌, List, ℕ, ◌+◌, ◌*◌, ◌≤◌, length, get_or, Float}
-use Rattle.std.proofs.lemmas.List.Edits.{sets}
+-- Inner definitions: no public call cites them. What the inner calls ask of rows. Definitions only.
+use Rattle.std.specs.Prelude.{List, ℕ, ◌+◌, ◌*◌, ◌≤◌, length, get_or, Float}
 use Rattle.std.specs.Float.{nan}
 use Rattle.listing_text.specs.Listing.{line_text}
-
--- A call stored a text from the place `at` on, in the slice that held `old`, and answered the place after it.
-pub record Written (old : List ℕ) (at : ℕ) (text : List ℕ) (new : List ℕ) (next : ℕ) : Type 0 where
-  pub bytes : new ≡ sets old at text
-  pub after : next ≡ at + length text
 
 -- The rows hold `count` sections, of which there are at most 512, and the slice has room for a line each and one more.
 pub record Listable (count : ℕ) (heads flows highest lowest : List Float) (out : List ℕ) : Type 0 where

@@ -5,12 +5,12 @@
 use mathlib.Core.Path.{◌≡◌, refl, sym, ap₂}
 use mathlib.Core.Logic.{⊎_elim}
 use mathlib.Core.Bool.{Bool, true, false, not, ◌&&◌, and-true, and_assoc, true≢false}
-use Prim.Native.Nat.{ℕ, zero, suc, ◌+◌, ◌<◌, ◌≤◌}
+use Prim.Native.Nat.{ℕ, zero, suc, ◌+◌, ◌<◌}
 use native.Mathlib.Nat.{add-zero, add-suc, le_of_suc-le-suc, not-suc-le-zero, eq-or-lt_of_le}
 use native.Mathlib.Numerals.{add-one}
 use native.Mathlib.Omega.{arith}
 use Rattle.loops.specs.Loops.{all_below}
-use Rattle.loops.proofs.Tests.{and_false, both, is_yes, is_no}
+use Rattle.loops.proofs.Tests.{and_false, both}
 
 and_swap : (a b c d : Bool) → (a && b) && (c && d) ≡ (a && c) && (b && d)
 and_swap true true c d = refl
@@ -74,21 +74,3 @@ module _ (p : ℕ → Bool) where
   unfolding all_below
   all_of zero h = refl
   all_of (suc n) h = rw (all_of n (λ i l. h i (omega arith)), h n (omega arith))
-
-  -- The invariant of such a loop, which branches on `!v` for the v that its test gives
-  pub record Passing (n i : ℕ) : Type 0 where
-    pub within : i ≤ n
-    pub passed : all_below p i ≡ true
-
-  module _ {n : ℕ} where
-    pub passing_none : Passing n 0
-    passing_none = record { within = omega arith; passed = all_none }
-
-    pub passing_step : {i : ℕ} {v : Bool} → Passing n i → i < n → v ≡ p i → not v ≡ false → Passing n (i + 1)
-    passing_step u l e h = record { within = omega arith; passed = all_more u.passed (is_yes e h) }
-
-    pub passing_stop : {i : ℕ} {v : Bool} → i < n → v ≡ p i → not v ≡ true → false ≡ all_below p n
-    passing_stop {i} l e h = sym (all_stop i n l (is_no e h))
-
-    pub passing_done : {i : ℕ} → Passing n i → n ≤ i → true ≡ all_below p n
-    passing_done {i} u l = let e : n ≡ i = omega arith in rw e (sym u.passed)

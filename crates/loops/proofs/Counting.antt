@@ -1,18 +1,18 @@
 -- A loop that adds 1 for each of 0, 1, .. that fails a test, and 0 for the others: the count is 0 exactly where the test holds of all. Assumes nothing.
 use mathlib.Core.Path.{◌≡◌, refl, sym, ap, ◌∙◌}
-use mathlib.Core.Bool.{Bool, true, false, ◌&&◌, cond, and-true}
-use Prim.Native.Nat.{ℕ, zero, suc, ◌+◌, ◌<◌, ◌≤◌}
+use mathlib.Core.Bool.{Bool, true, false, not, ◌&&◌, cond, and-true}
+use Prim.Native.Nat.{ℕ, zero, suc, ◌+◌, ◌≤◌}
 use native.Mathlib.Nat.{add-zero, zero-add}
 use native.Mathlib.Numerals.{add-one}
 use native.Mathlib.Omega.{arith}
+use mir.Val.{bool_byte}
 use borrow.Author.Tests.{eq-eqb, ne_eqb}
 use lib.Dec.{eqb}
 use Rattle.loops.specs.Loops.{all_below}
 use Rattle.loops.proofs.Tests.{and_false}
 
--- i of n are counted
-pub record Counting (p : ℕ → Bool) (n i count : ℕ) : Type 0 where
-  pub within : i ≤ n
+-- i are counted
+pub record Counting (p : ℕ → Bool) (i count : ℕ) : Type 0 where
   pub few : count ≤ i
   pub told : eqb count 0 ≡ all_below p i
 
@@ -24,18 +24,27 @@ at_most_one : (b : Bool) → cond b 0 1 ≤ 1
 at_most_one true = omega arith
 at_most_one false = omega arith
 
-module _ (p : ℕ → Bool) {n : ℕ} where
-  pub counting_none : Counting p n 0 0
-  unfolding all_below
-  counting_none = record { within = omega arith; few = omega arith; told = refl }
+-- what `u64::from(!test)` and `u64::from(test)` count
+pub counted_unless : (b : Bool) {n : ℕ} → n ≡ bool_byte (not b) → (n ≤ 1) × (n ≡ cond b 0 1)
+counted_unless true e = (omega (arith, e), e)
+counted_unless false e = (omega (arith, e), e)
 
-  pub counting_more : {i count v : ℕ} → Counting p n i count → i < n → v ≡ cond (p i) 0 1 → Counting p n (i + 1) (count + v)
-  unfolding all_below
-  counting_more {i} {count} {v} u l e =
-      rw e (record { within = omega arith; few = omega (arith, at_most_one (p i)); told = rw (add-one i) (told_more (all_below p i) (p i) count u.told) })
+pub counted_where : (b : Bool) {n : ℕ} → n ≡ bool_byte b → (n ≤ 1) × (n ≡ cond b 1 0)
+counted_where true e = (omega (arith, e), e)
+counted_where false e = (omega (arith, e), e)
 
-  pub counting_done : {i count : ℕ} → Counting p n i count → n ≤ i → eqb count 0 ≡ all_below p n
-  counting_done {i} u l = let e : n ≡ i = omega arith in rw e u.told
+module _ (p : ℕ → Bool) where
+  pub counting_none : Counting p 0 0
+  unfolding all_below
+  counting_none = record { few = omega arith; told = refl }
+
+  pub counting_more : {i count v : ℕ} → Counting p i count → v ≡ cond (p i) 0 1 → Counting p (i + 1) (count + v)
+  unfolding all_below
+  counting_more {i} {count} {v} u e =
+      rw e (record { few = omega (arith, at_most_one (p i), u.few); told = rw (add-one i) (told_more (all_below p i) (p i) count u.told) })
+
+  pub counting_done : {n i count : ℕ} → Counting p i count → i ≤ n → n ≤ i → eqb count 0 ≡ all_below p n
+  counting_done {n} {i} u below above = let e : n ≡ i = omega arith in rw e u.told
 
 -- what a branch on a count tells of the test
 pub none_counted : {count : ℕ} {t : Bool} → eqb count 0 ≡ t → count ≡ 0 → t ≡ true
@@ -55,9 +64,9 @@ one_told false = refl
 
 -- a turn that looks at two, each with a counter of its own
 pub two_counted :
-    (p : ℕ → Bool) (odd even : ℕ) {n i v w : ℕ} → Counting p n i (odd + even) → i + 2 ≤ n → v ≡ cond (p i) 0 1 → w ≡ cond (p (i + 1)) 0 1
-    → Counting p n (i + 2) (odd + v + (even + w))
-two_counted p odd even {n} {i} {v} {w} u l e d =
+    (p : ℕ → Bool) (odd even : ℕ) {i v w : ℕ} → Counting p i (odd + even) → v ≡ cond (p i) 0 1 → w ≡ cond (p (i + 1)) 0 1
+    → Counting p (i + 2) (odd + v + (even + w))
+two_counted p odd even {i} {v} {w} u e d =
     let s : i + 2 ≡ i + 1 + 1 = omega arith in
     let t : odd + v + (even + w) ≡ odd + even + v + w = omega arith in
-    rw (s, t) (counting_more p (counting_more p u (omega arith) e) (omega arith) d)
+    rw (s, t) (counting_more p (counting_more p u e) d)

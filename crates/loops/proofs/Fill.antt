@@ -4,7 +4,7 @@
 -- Of the result:  length-fill; fill_in, what stands in the range; fill_below, fill_above and drop-fill, what stands outside it; take_filled, the range as a list.
 -- Of several fills:  fill_cong   the same entries, the same list;  fill_join   one after the other is one;  fill_front   the first entry, and the rest;
 --                    set-fill   a store below the range;  fill_part   a part filled and put back is the whole filled from there
---                    filled_more   up to a place, and then more;  filled_whole   the whole list
+--                    filled_more   up to a place, and then more;  filled_whole   the whole list;  filled_same   one value
 -- Assumes nothing.
 use mathlib.Core.Path.{◌≡◌, refl, sym, ◌∙◌, ap, ap₂}
 use mathlib.Core.Logic.{⊎_elim}
@@ -15,8 +15,8 @@ use native.Mathlib.Numerals.{add-one}
 use native.Mathlib.Omega.{arith}
 use Rattle.loops.specs.Loops.{listed}
 use Rattle.loops.specs.Fill.{fill}
-use Rattle.loops.proofs.Listed.{listed_cong, take-listed}
-use lib.ListN.{length, get_or, set, take, drop, length-set, length-drop, take-append-drop}
+use Rattle.loops.proofs.Listed.{listed_cong, listed_same, take-listed}
+use lib.ListN.{length, get_or, set, take, drop, replicate, length-set, length-drop, take-append-drop}
 use lib.Seq.{get_or-set_same, get_or-set_other, drop-set-lt, set-append_left, length-take-le}
 
 module _ {A : Type 0} (f : ℕ → A) (l : List A) (at : ℕ) where
@@ -56,23 +56,6 @@ module _ {A : Type 0} (f : ℕ → A) (l : List A) (at : ℕ) where
   unfolding fill
   drop-fill zero m h = refl
   drop-fill (suc n) m h = drop-set-lt m (fill f l at n) (at + n) (f n) (omega arith) ∙ drop-fill n m (omega arith)
-
--- The invariant of such a loop: i of n entries are stored.
-pub record Upto {A : Type 0} (f : ℕ → A) (old : List A) (at n i : ℕ) (new : List A) : Type 0 where
-  pub within : i ≤ n
-  pub long : length new ≡ length old
-  pub stored : new ≡ fill f old at i
-
-module _ {A : Type 0} {f : ℕ → A} {old : List A} {at n : ℕ} where
-  pub upto_none : Upto f old at n 0 old
-  upto_none = record { within = omega arith; long = refl; stored = fill_none f old at }
-
-  pub upto_step : {i j : ℕ} {v : A} {new : List A} → Upto f old at n i new → i < n → j ≡ at + i → v ≡ f i → Upto f old at n (i + 1) (set new j v)
-  upto_step {i} {j} {v} {new} u l p q =
-      record { within = omega arith; long = length-set new j v ∙ u.long; stored = fill_step f old at u.stored p q }
-
-  pub upto_done : {i : ℕ} {new : List A} → Upto f old at n i new → n ≤ i → new ≡ fill f old at n
-  upto_done {i} {new} u l = let e : n ≡ i = omega arith in rw e u.stored
 
 -- ---- several fills
 
@@ -138,6 +121,10 @@ take_filled d n g l h =
 -- a list filled from its first entry on, as a list
 pub filled_whole : {A : Type 0} (d : A) (f : ℕ → A) (l : List A) (n : ℕ) → n ≤ length l → fill f l 0 n ≡ listed n f ++ drop n l
 filled_whole d f l n h = sym (take-append-drop n (fill f l 0 n)) ∙ ap₂ ◌++◌ (take_filled d n f l h) (drop-fill f l 0 n n (omega arith))
+
+-- the same value into the first n entries, as `fill` of a slice leaves them
+pub filled_same : {A : Type 0} (v : A) (l : List A) (n : ℕ) → n ≤ length l → replicate (length (take n l)) v ++ drop n l ≡ fill (λ (s : ℕ). v) l 0 n
+filled_same v l n h = rw (length-take-le n l h, ← listed_same n v) (sym (filled_whole v (λ (s : ℕ). v) l n h))
 
 -- a list filled up to s, and then n entries more
 pub filled_more :

@@ -6,3 +6,4 @@ pub mod All
 pub mod First
 pub mod Counting
 pub mod Parts
+pub mod Ranges

@@ -2,7 +2,6 @@
 #![tactic(auto)]
 
 ghost use Rattle.std.specs.Prelude.{◌≡◌, ◌≤◌, length};
-ghost use Rattle.whole_root.specs.Table.{IsTable};
 ghost use Rattle.wave.specs.Nodes.{node_head, node_inflow};
 ghost use Rattle.job.specs.Questions.{Accepted};
 ghost use Rattle.node_sums.specs.FromRows.{pair_finite, for_ends, OverNodes, head_by, inflow_by};
@@ -23,11 +22,10 @@ fn pair_finite(n: Node, inflow: f64) -> bool
 
 // H of a node as its ends take it, and its inflow. Where the pair is not finite H is plus infinity, so that the check
 // stops at each end of the node.
-fn for_ends(roots: &[u16; 768], n: Node, sums: Sums) -> HeadInflow
-    requires { IsTable roots.now }
+fn for_ends(n: Node, sums: Sums) -> HeadInflow
     ensures { (result.head ≡ node_head (for_ends n sums) sums) × (result.inflow ≡ node_inflow n sums) }
 {
-    let solved = wave::solve_node(roots, n, sums);
+    let solved = wave::solve_node(n, sums);
     let inflow = solved.inflow;
     if pair_finite(n, inflow) {
         return solved;
@@ -38,17 +36,15 @@ fn for_ends(roots: &[u16; 768], n: Node, sums: Sums) -> HeadInflow
     }
 }
 
-// H of each node, as its ends take it, and its inflow, from its value and its sums; `roots` is the table that starts a
-// root.
+// H of each node, as its ends take it, and its inflow, from its value and its sums.
 pub fn node_heads(
-    roots: &[u16; 768],
     job: &[u8],
     values: &[f64],
     sums: [Sums; 32],
     heads: &mut [f64],
     inflows: &mut [f64],
 )
-    requires { (IsTable roots.now) × (Accepted job.now) × (32 ≤ length values.now)
+    requires { (Accepted job.now) × (32 ≤ length values.now)
         × (32 ≤ length heads.old) × (32 ≤ length inflows.old) }
     ensures { (OverNodes job.now (head_by job.now values.now sums)
         heads.new)
@@ -57,12 +53,10 @@ pub fn node_heads(
 {
     let nodes = job::tables::nodes(job);
     let n = nodes.len() / 26;
-    let mut node = 0;
-    while node < n {
+    for node in 0..n {
         let with_value = job::nodes::node_with(nodes, node, values[node]);
-        let solved = for_ends(roots, with_value, sums[node]);
+        let solved = for_ends(with_value, sums[node]);
         heads[node] = solved.head;
         inflows[node] = solved.inflow;
-        node += 1;
     }
 }

@@ -9,34 +9,28 @@ ghost use Rattle.job.specs.Questions.{not_below_zero, kind_fits, kinds_fit, coun
 ghost use Rattle.job.specs.Questions.{all_finite, has_no_figures, valve_fits, pump_fits};
 ghost use Rattle.job.specs.Questions.{figures_fit_kind, figure_fits, figures_fit};
 ghost use Rattle.job.specs.Questions.{ends_at, has_end, nodes_met, pair_questions, node_questions, first_no};
+ghost use Rattle.job.specs.Refusals.{no_of};
 
-use job::nodes::kind;
-use job::questions::decide;
+use job::nodes::{NodeKind, UnknownKind, kind};
+use job::questions::{Question, ask};
 use job::schedules::{count_byte, long_count};
 
 mod trips;
 
 // 10, of a node: is the kind 0 to 3, and the byte at least 1 where it counts?
+#[tactic(auto, unfolding(job::specs::Questions::kind_fits))]
 fn kind_fits(nodes: &[u8], counts: &[u8], node: usize) -> bool
     requires { node < node_count nodes.now }
     ensures { result ≡ kind_fits nodes.now counts.now node }
 {
-    (kind(nodes, node) <= 3) & ((counts.len() != 0) | (1 <= count_byte(nodes, node)))
+    kind(nodes, node).is_ok() & ((counts.len() != 0) | (1 <= count_byte(nodes, node)))
 }
 
 // 10
 fn kinds_fit(nodes: &[u8], counts: &[u8]) -> bool
     ensures { result ≡ kinds_fit nodes.now counts.now }
 {
-    let n = nodes.len() / 26;
-    let mut node = 0;
-    while node < n {
-        if !kind_fits(nodes, counts, node) {
-            return false;
-        }
-        node += 1;
-    }
-    true
+    (0..nodes.len() / 26).all(|node| kind_fits(nodes, counts, node))
 }
 
 // 50, of a node: is its count in table 6 at least 1, and the byte that it replaces zero?
@@ -54,15 +48,7 @@ fn each_count_fits(nodes: &[u8], counts: &[u8]) -> bool
     requires { length counts.now ≡ node_count nodes.now * 2 }
     ensures { result ≡ each_count_fits nodes.now counts.now }
 {
-    let n = nodes.len() / 26;
-    let mut node = 0;
-    while node < n {
-        if !count_fits(nodes, counts, node) {
-            return false;
-        }
-        node += 1;
-    }
-    true
+    (0..nodes.len() / 26).all(|node| count_fits(nodes, counts, node))
 }
 
 // 50: is table 6 empty, or two bytes for each node that fit?
@@ -127,18 +113,18 @@ fn pump_fits(nodes: &[u8], node: usize) -> bool
 }
 
 // What a node's kind asks of its figures.
+#[tactic(auto, unfolding(job::specs::Questions::figures_fit_kind))]
 fn figures_fit_kind(nodes: &[u8], node: usize) -> bool
     requires { (node < node_count nodes.now) × (all_finite nodes.now node ≡ true) }
     ensures { result ≡ figures_fit_kind nodes.now node }
 {
-    let k = kind(nodes, node);
-    if k == 2 {
-        return valve_fits(nodes, node);
+    match kind(nodes, node) {
+        Ok(NodeKind::Valve) => valve_fits(nodes, node),
+        Ok(NodeKind::Pump) => pump_fits(nodes, node),
+        Ok(NodeKind::Junction | NodeKind::Reservoir) | Err(UnknownKind) => has_no_figures(
+            nodes, node,
+        ),
     }
-    if k == 3 {
-        return pump_fits(nodes, node);
-    }
-    has_no_figures(nodes, node)
 }
 
 // 11, of a node
@@ -157,15 +143,7 @@ fn figure_fits(nodes: &[u8], node: usize) -> bool
 fn figures_fit(nodes: &[u8]) -> bool
     ensures { result ≡ figures_fit nodes.now }
 {
-    let n = nodes.len() / 26;
-    let mut node = 0;
-    while node < n {
-        if !figure_fits(nodes, node) {
-            return false;
-        }
-        node += 1;
-    }
-    true
+    (0..nodes.len() / 26).all(|node| figure_fits(nodes, node))
 }
 
 // Has pipe p an end at the node?
@@ -180,46 +158,29 @@ fn ends_at(pipes: &[u8], node: usize, p: usize) -> bool
 fn has_end(pipes: &[u8], node: usize) -> bool
     ensures { result ≡ has_end pipes.now node }
 {
-    let n = pipes.len() / 12;
-    let mut p = 0;
-    while p < n {
-        if ends_at(pipes, node, p) {
-            return true;
-        }
-        p += 1;
-    }
-    false
+    (0..pipes.len() / 12).any(|p| ends_at(pipes, node, p))
 }
 
 // 12
 fn nodes_met(pipes: &[u8], count: usize) -> bool
     ensures { result ≡ nodes_met pipes.now count }
 {
-    let mut node = 0;
-    while node < count {
-        if !has_end(pipes, node) {
-            return false;
-        }
-        node += 1;
-    }
-    true
+    (0..count).all(|node| has_end(pipes, node))
 }
 
-// The first of questions 10, 50, 53, 11 and 12 with a no, or 0.
-pub fn first_no(job: &[u8]) -> usize
+// Questions 10, 50, 53, 11 and 12.
+#[tactic(auto, unfolding(job::specs::Questions::node_questions, job::specs::Questions::first_no))]
+pub fn ask_all(job: &[u8]) -> Result<(), Question>
     requires { first_no pair_questions job.now ≡ 0 }
-    ensures { result ≡ first_no node_questions job.now }
+    ensures { no_of result ≡ first_no node_questions job.now }
 {
     let pipes = job::tables::pipes(job);
     let nodes = job::tables::nodes(job);
     let counts = job::tables::counts(job);
     let trips = job::tables::trips(job);
-    let kinds = kinds_fit(nodes, counts);
-    let whole_counts = counts_fit(nodes, counts);
-    let whole_trips = trips::trips_fit(nodes, trips);
-    let figures = figures_fit(nodes);
-    let met = nodes_met(pipes, nodes.len() / 26);
-    let from_11 = decide(figures, 11, decide(met, 12, 0));
-    let from_53 = decide(whole_trips, 53, from_11);
-    decide(kinds, 10, decide(whole_counts, 50, from_53))
+    ask(kinds_fit(nodes, counts), Question::NodeKinds)?;
+    ask(counts_fit(nodes, counts), Question::ScheduleCounts)?;
+    ask(trips::trips_fit(nodes, trips), Question::Trips)?;
+    ask(figures_fit(nodes), Question::NodeFigures)?;
+    ask(nodes_met(pipes, nodes.len() / 26), Question::NodesMet)
 }

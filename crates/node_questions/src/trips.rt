@@ -6,15 +6,22 @@ ghost use Rattle.job.specs.Format.{trip_count, trip_in};
 ghost use Rattle.job.specs.Questions.{finite_not_below_zero, is_pump, first_of_node};
 ghost use Rattle.job.specs.Questions.{rundown_fits, trip_fits, trips_fit};
 
-use job::nodes::kind;
+use job::nodes::{NodeKind, UnknownKind, kind};
 use job::trips::node_of;
 
 // Is node y there, and a pump?
+#[tactic(auto, unfolding(job::specs::Questions::is_pump))]
 fn is_pump(nodes: &[u8], y: usize) -> bool
     ensures { result ≡ is_pump nodes.now y }
 {
-    let n = nodes.len() / 26;
-    if y < n { kind(nodes, y) == 3 } else { false }
+    if nodes.len() / 26 <= y {
+        return false;
+    }
+    match kind(nodes, y) {
+        Ok(NodeKind::Pump) => true,
+        Ok(NodeKind::Junction | NodeKind::Reservoir | NodeKind::Valve) => false,
+        Err(UnknownKind) => false,
+    }
 }
 
 // Do records k and i name different nodes?
@@ -30,14 +37,7 @@ fn first_of_node(trips: &[u8], i: usize) -> bool
     requires { i < trip_count trips.now }
     ensures { result ≡ first_of_node trips.now i }
 {
-    let mut k = 0;
-    while k < i {
-        if !nodes_differ(trips, k, i) {
-            return false;
-        }
-        k += 1;
-    }
-    true
+    (0..i).all(|k| nodes_differ(trips, k, i))
 }
 
 // Is the f64 at a place finite and not below zero?
@@ -74,15 +74,7 @@ fn each_trip_fits(nodes: &[u8], trips: &[u8]) -> bool
     ensures { result ≡ all_below (trip_fits nodes.now trips.now)
         (trip_count trips.now) }
 {
-    let n = trips.len() / 30;
-    let mut i = 0;
-    while i < n {
-        if !trip_fits(nodes, trips, i) {
-            return false;
-        }
-        i += 1;
-    }
-    true
+    (0..trips.len() / 30).all(|i| trip_fits(nodes, trips, i))
 }
 
 // 53

@@ -11,15 +11,16 @@ use lib.ListN.{length, get_or, set, length-set}
 use lib.Seq.{get_or-set_same, get_or-set_other}
 use lib.Ieee.{Float, nan}
 use borrow.Author.Tests.{eqb-true, eqb-false}
-use Rattle.loops.proofs.Fill.{Upto, fill_in}
+use Rattle.loops.specs.Fill.{fill}
+use Rattle.loops.proofs.Fill.{length-fill, fill_in}
 use Rattle.job.specs.Format.{node_table, node_count}
 use Rattle.node_sums.specs.FromRows.{OverNodes}
 
 module _ (job : List ℕ) (f : ℕ → Float) where
-  pub over_filled : {old row : List Float} {n i : ℕ} → n ≡ node_count (node_table job) → n ≤ length old → Upto f old 0 n i row → n ≤ i → OverNodes job f row
-  over_filled {old} {row} {n} {i} count long u done = record {
-    long = omega (arith, count, u.long);
-    at = λ node h. rw u.stored (rw (zero-add node) at (fill_in f old 0 nan i node (omega (arith, u.within)) (omega arith)));
+  pub over_filled : (old : List Float) {row : List Float} {i : ℕ} → row ≡ fill f old 0 i → i ≡ node_count (node_table job) → i ≤ length old → OverNodes job f row
+  over_filled old {row} {i} stored count long = record {
+    long = rw stored (omega (arith, length-fill f old 0 i));
+    at = λ node h. rw stored (rw (zero-add node) at (fill_in f old 0 nan i node (omega arith) (omega arith)));
   }
 
   pub over_cong : (g : ℕ → Float) {row : List Float} → OverNodes job f row → ((y : ℕ) → y < node_count (node_table job) → f y ≡ g y) → OverNodes job g row

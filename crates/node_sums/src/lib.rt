@@ -9,7 +9,6 @@ ghost use Rattle.recurrence.specs.Step.{k_at_start, k_at_finish};
 ghost use Rattle.pipe_layout.specs.Layout.{laid_of, LaidPipe};
 ghost use Rattle.node_sums.specs.FromRows.{along_rows, Lent, constant_sums};
 
-use job::walk::Walk;
 use pipe_layout::Laid;
 use wave::Sums;
 
@@ -48,17 +47,13 @@ pub fn constant_sums(job: &[u8]) -> [Sums; 32]
     requires { Accepted job.now }
     ensures { result ≡ constant_sums job.now }
 {
-    let count = pipe_layout::pipe_count(job);
     let none = Sums::none();
     let mut sums = [none; 32];
-    let mut at = Walk::begun();
-    while at.pipe < count {
-        let l = pipe_layout::pipe_at(job, at);
+    for l in pipe_layout::each_pipe(job) {
         let start = l.start;
         let finish = l.finish;
         sums[start] = sums[start].with_s(l.s);
         sums[finish] = sums[finish].with_s(l.s);
-        at = at.past(l.reaches);
     }
     sums
 }

@@ -1,5 +1,4 @@
--- The nodes' values and pairs, as the code works them out: records taken one after the other leave the last that passes, and a node's kind tells its pair.
--- Assumes nothing.
+-- The nodes' values, as the code works them out: records taken one after the other leave the last that passes. Assumes nothing.
 use mathlib.Core.Path.{◌≡◌, refl, sym, ap, ◌∙◌}
 use mathlib.Core.Bool.{Bool, true, false, cond, ◌&&◌}
 use mathlib.Core.List.{List}
@@ -9,16 +8,13 @@ use lib.Dec.{eqb, leb}
 use lib.ListN.{length, get_or, set, take}
 use lib.Seq.{take_all}
 use lib.Ieee.{Float, nan}
-use borrow.Author.Tests.{leb-true, eqb-true, eqb-false}
-use Rattle.loops.proofs.All.{all_at}
-use Rattle.loops.proofs.Tests.{both}
+use borrow.Author.Tests.{eqb-true}
 use Rattle.wave.specs.Nodes.{rundown}
-use Rattle.job.specs.Job.{Trip, junction, reservoir, valve, pump, scheduled}
-use Rattle.job.specs.Format.{job_of, node_table, count_table, trip_table, node_count, kind_number, kind_in, a_of, b_of, c_of, trip_count, trip_in}
-use Rattle.job.specs.Questions.{kind_fits, kinds_fit, Accepted}
-use Rattle.job.proofs.Accepted.{tables_right}
+use Rattle.job.specs.Job.{Trip, scheduled}
+use Rattle.job.specs.Format.{job_of, node_table, trip_table, node_count, b_of, trip_count, trip_in}
+use Rattle.job.specs.Questions.{Accepted}
 use Rattle.job.proofs.AcceptedTrips.{trips_length, trip_listed, accepted_trip}
-use Rattle.recurrence.specs.State.{Drive, no_drive, drive_of}
+use Rattle.recurrence.specs.State.{Drive}
 use Rattle.recurrence.specs.Step.{value_by}
 use Rattle.recurrence.proofs.StepLaws.{last_next}
 use Rattle.section.proofs.Entries.{read}
@@ -79,31 +75,3 @@ pub all_taken : (job : List ℕ) → Accepted job → (n : ℕ) (speeds inflows 
 all_taken job ok n speeds inflows {i} h is =
     let all : take i (job_of job).trips ≡ (job_of job).trips = take_all i (job_of job).trips (omega (arith, trips_length job ok)) in
     over_cong job _ _ is (λ y _. ap (λ (ts : List Trip). value_by ts n y (pair_in speeds inflows y) (scheduled (job_of job) n y)) all)
-
--- ---- a node's pair, by the number of its kind
-
--- question 10's yes
-pub kind_low : (job : List ℕ) → Accepted job → (node : ℕ) → node < node_count (node_table job) → kind_number (node_table job) node ≤ 3
-unfolding kinds_fit kind_fits
-kind_low job ok node h =
-    let nodes = node_table job in
-    leb-true _ _ (both (leb (kind_number nodes node) 3) _ (all_at (kind_fits nodes (count_table job)) node (node_count nodes) (tables_right job ok).nodes.kinds h)).0
-
-module _ (nodes : List ℕ) (node : ℕ) (v q : Float) where
-  abbrev k : ℕ
-  k = kind_number nodes node
-
-  pub pair_of_pump : k ≡ 3 → drive_of (kind_in nodes node) v q ≡ record { speed = v; inflow = q }
-  unfolding kind_in drive_of
-  pair_of_pump e = rw e
-
-  pub pair_of_other : k ≤ 3 → ¬ (k ≡ 3) → drive_of (kind_in nodes node) v q ≡ no_drive
-  unfolding kind_in drive_of
-  pair_of_other h not-3 = go (eqb k 0) refl (eqb k 1) refl (eqb k 2) refl
-    where
-      go : (a : Bool) → eqb k 0 ≡ a → (b : Bool) → eqb k 1 ≡ b → (c : Bool) → eqb k 2 ≡ c
-          → drive_of (cond a junction (cond b reservoir (cond c (valve (a_of nodes node) (b_of nodes node)) (pump (a_of nodes node) (b_of nodes node) (c_of nodes node))))) v q ≡ no_drive
-      go true e b f c g = refl
-      go false e true f c g = refl
-      go false e false f true g = refl
-      go false e false f false g = absurd (omega (arith, not-3, eqb-false k 0 e, eqb-false k 1 f, eqb-false k 2 g))

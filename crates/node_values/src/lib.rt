@@ -5,12 +5,14 @@ ghost use Rattle.std.specs.Prelude.{◌≡◌, true, cond, ℕ, ◌<◌, ◌≤�
 ghost use Rattle.loops.specs.Loops.{all_below};
 ghost use Rattle.wave.specs.Nodes.{rundown};
 ghost use Rattle.job.specs.Job.{scheduled};
-ghost use Rattle.job.specs.Format.{job_of, node_table, node_count, kind_number, kind_in, trip_count, trip_in};
+ghost use Rattle.job.specs.Format.{job_of, node_table, node_count, kind_in, trip_count, trip_in};
 ghost use Rattle.job.specs.Questions.{rundown_fits, Accepted};
 ghost use Rattle.recurrence.specs.State.{drive_of};
 ghost use Rattle.recurrence.specs.Scan.{finite_drive};
 ghost use Rattle.node_sums.specs.FromRows.{OverNodes};
 ghost use Rattle.node_values.specs.Pairs.{pair_in, value_from, PairsStored};
+
+use job::nodes::{NodeKind, UnknownKind, kind};
 
 // The number of nodes.
 pub fn node_count(job: &[u8]) -> usize
@@ -32,12 +34,10 @@ pub fn scheduled_at(job: &[u8], step: usize, values: &mut [f64])
     let counts = job::tables::counts(job);
     let n = nodes.len() / 26;
     let mut place = 0;
-    let mut node = 0;
-    while node < n {
+    for node in 0..n {
         let count = job::schedules::schedule_count(nodes, counts, node);
         values[node] = job::schedules::value_at(schedules, place, count, step);
-        place = place + count;
-        node += 1;
+        place += count;
     }
 }
 
@@ -66,11 +66,9 @@ pub fn values_at(job: &[u8], step: usize, speeds: &[f64], inflows: &[f64], value
     scheduled_at(job, step, values);
     let trips = job::tables::trips(job);
     let count = job::trips::trip_count(trips);
-    let mut i = 0;
-    while i < count {
+    for i in 0..count {
         let node = job::trips::node_of(trips, i);
         values[node] = value_by(trips, i, step, speeds[node], inflows[node], values[node]);
-        i += 1;
     }
 }
 
@@ -81,22 +79,23 @@ struct Pair {
     inflow: f64,
 }
 
-// The pair of a node with the value v and the inflow q: of a pump these two, of any other node +0 twice.
+// The pair of a node with the value v and the inflow q: of a pump these two, of any other node +0 twice. A number
+// that stands for no kind is taken for a pump's, as `kind_in` takes it.
+#[tactic(auto, unfolding(recurrence::specs::State::drive_of, recurrence::specs::State::no_drive, job::specs::Format::kind_in))]
 fn pair_of(nodes: &[u8], node: usize, v: f64, q: f64) -> Pair
-    requires { (node < node_count nodes.now) × (kind_number nodes.now node ≤ 3) }
+    requires { node < node_count nodes.now }
     ensures { (result.speed ≡ (drive_of (kind_in nodes.now node) v q).speed)
         × (result.inflow ≡ (drive_of (kind_in nodes.now node) v q).inflow) }
 {
-    if job::nodes::kind(nodes, node) == 3 {
-        Pair {
+    match kind(nodes, node) {
+        Ok(NodeKind::Pump) | Err(UnknownKind) => Pair {
             speed: v,
             inflow: q,
-        }
-    } else {
-        Pair {
+        },
+        Ok(NodeKind::Junction | NodeKind::Reservoir | NodeKind::Valve) => Pair {
             speed: 0.0,
             inflow: 0.0,
-        }
+        },
     }
 }
 
@@ -116,12 +115,10 @@ pub fn write_pairs(
 {
     let nodes = job::tables::nodes(job);
     let n = nodes.len() / 26;
-    let mut node = 0;
-    while node < n {
+    for node in 0..n {
         let pair = pair_of(nodes, node, values[node], found[node]);
         speeds[node] = pair.speed;
         inflows[node] = pair.inflow;
-        node += 1;
     }
 }
 
@@ -130,12 +127,5 @@ pub fn finite_pairs(n: usize, speeds: &[f64], inflows: &[f64]) -> bool
     requires { (n ≤ length speeds.now) × (n ≤ length inflows.now) }
     ensures { result ≡ all_below (λ (y : ℕ). finite_drive (pair_in speeds.now inflows.now y)) n }
 {
-    let mut node = 0;
-    while node < n {
-        if !section::both_finite(speeds[node], inflows[node]) {
-            return false;
-        }
-        node += 1;
-    }
-    true
+    (0..n).all(|node| section::both_finite(speeds[node], inflows[node]))
 }

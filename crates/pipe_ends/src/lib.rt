@@ -2,15 +2,13 @@
 // and flow at each end, in the spare.
 #![tactic(auto)]
 
-ghost use Rattle.std.specs.Prelude.{◌≡◌, ◌+◌, ◌*◌, ◌<◌, ◌≤◌, length, drop};
-ghost use Rattle.whole_root.specs.Table.{IsTable};
+ghost use Rattle.std.specs.Prelude.{◌≡◌, ◌+◌, ◌*◌, ◌≤◌, length, drop};
 ghost use Rattle.job.specs.Format.{pipe_table, pipe_count};
 ghost use Rattle.job.specs.Questions.{Accepted};
 ghost use Rattle.node_sums.specs.FromRows.{Lent, OverNodes, value_in};
 ghost use Rattle.node_sums.specs.FromRows.{constant_sums, node_sums, end_nodes, inflow_at};
 ghost use Rattle.spare_ends.specs.Spare.{KIn, EndsByK, EndsIn};
 
-use job::walk::Walk;
 use wave::Sums;
 
 // The sums of each node, from those before any K; and K at both ends of each pipe into the spare, where the
@@ -29,21 +27,17 @@ fn keep_k(
         × (KIn job.now heads.now flows.now spare.new)
         × (drop end spare.new ≡ drop end spare.old) }
 {
-    let count = pipe_layout::pipe_count(job);
     let mut sums = constant;
-    let mut at = Walk::begun();
-    while at.pipe < count {
-        let l = pipe_layout::pipe_at(job, at);
+    for l in pipe_layout::each_pipe(job) {
         let start = l.start;
         let finish = l.finish;
         let at_start = node_sums::k_at_start(job, l, heads, flows);
         let at_finish = node_sums::k_at_finish(job, l, heads, flows);
         sums[start] = sums[start].with_k(at_start);
         sums[finish] = sums[finish].with_k(at_finish);
-        let i = at.pipe * 4;
+        let i = l.number * 4;
         spare[i + 1] = at_start;
         spare[i + 3] = at_finish;
-        at = at.past(l.reaches);
     }
     sums
 }
@@ -56,20 +50,15 @@ fn ends_from_k(job: &[u8], nodes: &[f64], spare: &mut [f64])
         (EndsByK job.now nodes.now spare.old spare.new)
         × (drop end spare.new ≡ drop end spare.old) }
 {
-    let count = pipe_layout::pipe_count(job);
-    let mut at = Walk::begun();
-    while at.pipe < count {
-        let l = pipe_layout::pipe_at(job, at);
-        spare_ends::pipe_ends(l, at.pipe, nodes, spare);
-        at = at.past(l.reaches);
+    for l in pipe_layout::each_pipe(job) {
+        spare_ends::pipe_ends(l, l.number, nodes, spare);
     }
 }
 
 // The new head and flow at both ends of each pipe into the spare, and the inflow of each node into `entering`; `nodes`
-// holds the nodes' heads meanwhile. `roots` is the table that starts a root, `values` has v of each node at the step,
-// `constant` the sums of the nodes before any K.
+// holds the nodes' heads meanwhile. `values` has v of each node at the step, `constant` the sums of the nodes before any
+// K.
 pub fn write_ends(
-    roots: &[u16; 768],
     job: &[u8],
     values: &[f64],
     constant: [Sums; 32],
@@ -79,7 +68,7 @@ pub fn write_ends(
     entering: &mut [f64],
     spare: &mut [f64],
 )
-    requires table { (IsTable roots.now) × (Lent job.now heads.now flows.now)
+    requires lent { (Lent job.now heads.now flows.now)
         × (constant ≡ constant_sums job.now) × (pipe_count (pipe_table job.now) * 4 ≤ length spare.old) }
     requires in_bounds { (32 ≤ length values.now) × (32 ≤ length nodes.old) × (32 ≤ length entering.old) }
     ensures { let end = pipe_count (pipe_table job.now) * 4 in
@@ -91,6 +80,6 @@ pub fn write_ends(
         × (drop end spare.new ≡ drop end spare.old) }
 {
     let sums = keep_k(job, constant, heads, flows, spare);
-    node_heads::node_heads(roots, job, values, sums, nodes, entering);
+    node_heads::node_heads(job, values, sums, nodes, entering);
     ends_from_k(job, nodes, spare);
 }

@@ -32,3 +32,6 @@ module _ (job : List ℕ) where
           → (Accepted job) × (s ≡ sections (job_of job)) × (m ≡ listing_steps job)
       go true e a = (eqb-true _ _ e, cc, cc)
       go false e a = let z : ◌≡◌ {A = ℕ} 0 1 = cc in absurd (omega arith)
+
+-- both, for a tactic
+pub ruleset answer_is = (refused_is, accepted_is)

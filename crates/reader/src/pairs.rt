@@ -2,9 +2,10 @@
 ghost use Rattle.std.specs.Prelude.{◌≡◌, ◌≤◌, length};
 ghost use Rattle.job.specs.Format.{pair_count, pairs_end};
 ghost use Rattle.job.specs.Questions.{size_fits, pairs_fit, tables_follow, pair_questions, first_no};
+ghost use Rattle.job.specs.Refusals.{no_of};
 
 use job::pairs::{length_of, listing_steps, offset_of, pair_count, pairs_end};
-use job::questions::decide;
+use job::questions::{Question, ask};
 
 // The least and the greatest number of pairs that a job may have.
 const LEAST_PAIRS: usize = 5;
@@ -34,29 +35,23 @@ fn tables_follow(job: &[u8]) -> bool
 {
     let count = pair_count(job);
     let mut begin = pairs_end(count);
-    let mut k = 0;
-    while k < count {
+    for k in 0..count {
         let offset = offset_of(job, k);
         if offset != begin {
             return false;
         }
         begin = offset + length_of(job, k);
-        k += 1;
     }
     begin == job.len()
 }
 
-// The first of questions 1 to 4 with a no, or 0.
-pub fn first_no(job: &[u8]) -> usize
-    ensures { result ≡ first_no pair_questions job.now }
+// Questions 1 to 4.
+#[tactic(auto, unfolding(job::specs::Questions::pair_questions, job::specs::Questions::first_no, job::specs::Questions::steps_fit), using(job::proofs::TableBounds::size_least, job::proofs::TableBounds::pairs_within))]
+pub fn ask_all(job: &[u8]) -> Result<(), Question>
+    ensures { no_of result ≡ first_no pair_questions job.now }
 {
-    if !size_fits(job) {
-        return 1;
-    }
-    if !pairs_fit(job) {
-        return 2;
-    }
-    let follow = tables_follow(job);
-    let few_steps = listing_steps(job) <= 1000000;
-    decide(follow, 3, decide(few_steps, 4, 0))
+    ask(size_fits(job), Question::Size)?;
+    ask(pairs_fit(job), Question::PairCount)?;
+    ask(tables_follow(job), Question::TablesInOrder)?;
+    ask(listing_steps(job) <= 1000000, Question::ListingSteps)
 }

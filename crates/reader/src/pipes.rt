@@ -4,9 +4,10 @@ ghost use Rattle.std.specs.Prelude.{◌≡◌, ◌<◌};
 ghost use Rattle.job.specs.Format.{pipe_count, pipe_in};
 ghost use Rattle.job.specs.Questions.{holds_records, joins, pipes_join, constant_fits, constants_fit};
 ghost use Rattle.job.specs.Questions.{pair_questions, pipe_questions, first_no};
+ghost use Rattle.job.specs.Refusals.{no_of};
 
 use job::pipes::{finish, reaches, s_of, section_count, start};
-use job::questions::decide;
+use job::questions::{Question, ask};
 
 // Is the table one of whole records, low to high of them?
 fn holds_records(t: &[u8], width: usize, low: usize, high: usize) -> bool
@@ -32,15 +33,7 @@ fn joins(pipes: &[u8], count: usize, p: usize) -> bool
 fn pipes_join(pipes: &[u8], count: usize) -> bool
     ensures { result ≡ pipes_join pipes.now count }
 {
-    let n = pipes.len() / 12;
-    let mut p = 0;
-    while p < n {
-        if !joins(pipes, count, p) {
-            return false;
-        }
-        p += 1;
-    }
-    true
+    (0..pipes.len() / 12).all(|p| joins(pipes, count, p))
 }
 
 // 9, of pipe p: is S finite and above zero?
@@ -59,30 +52,20 @@ fn constant_fits(pipes: &[u8], p: usize) -> bool
 fn constants_fit(pipes: &[u8]) -> bool
     ensures { result ≡ constants_fit pipes.now }
 {
-    let n = pipes.len() / 12;
-    let mut p = 0;
-    while p < n {
-        if !constant_fits(pipes, p) {
-            return false;
-        }
-        p += 1;
-    }
-    true
+    (0..pipes.len() / 12).all(|p| constant_fits(pipes, p))
 }
 
-// The first of questions 5 to 9 with a no, or 0.
-pub fn first_no(job: &[u8]) -> usize
+// Questions 5 to 9.
+#[tactic(auto, unfolding(job::specs::Questions::pipe_questions, job::specs::Questions::first_no, job::specs::Questions::sections_fit), using(job::proofs::TableBounds::pairs_right, job::proofs::TableBounds::table_short))]
+pub fn ask_all(job: &[u8]) -> Result<(), Question>
     requires { first_no pair_questions job.now ≡ 0 }
-    ensures { result ≡ first_no pipe_questions job.now }
+    ensures { no_of result ≡ first_no pipe_questions job.now }
 {
     let pipes = job::tables::pipes(job);
     let nodes = job::tables::nodes(job);
-    let pipes_whole = holds_records(pipes, 12, 1, 32);
-    let nodes_whole = holds_records(nodes, 26, 2, 32);
-    let joined = pipes_join(pipes, nodes.len() / 26);
-    let few_sections = section_count(pipes) <= 512;
-    let constants = constants_fit(pipes);
-    let from_8 = decide(few_sections, 8, decide(constants, 9, 0));
-    let from_6 = decide(nodes_whole, 6, decide(joined, 7, from_8));
-    decide(pipes_whole, 5, from_6)
+    ask(holds_records(pipes, 12, 1, 32), Question::PipesWhole)?;
+    ask(holds_records(nodes, 26, 2, 32), Question::NodesWhole)?;
+    ask(pipes_join(pipes, nodes.len() / 26), Question::PipesJoin)?;
+    ask(section_count(pipes) <= 512, Question::SectionCount)?;
+    ask(constants_fit(pipes), Question::PipeConstants)
 }

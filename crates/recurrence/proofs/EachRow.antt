@@ -1,5 +1,5 @@
--- A fact of every lent row: by the row's name, and as a tuple in the order in which they are lent. Assumes nothing.
-use mathlib.Core.List.{List, [], ◌∷◌, foldr}
+-- A fact of every lent row: by the row's name, and from a tuple in the order in which they are lent. Assumes nothing.
+use mathlib.Core.List.{List, foldr}
 use Rattle.recurrence.specs.Calls.{Row, heads, flows, highest, lowest, speeds, inflows, spare, all_rows}
 
 -- by the row's name, from one for each row
@@ -21,10 +21,3 @@ Each P = EachOf P all_rows
 
 pub untupled : (P : Row → Type 0) → Each P → (x : Row) → P x
 untupled P t = each P t.0 t.1.0 t.1.1.0 t.1.1.1.0 t.1.1.1.1.0 t.1.1.1.1.1.0 t.1.1.1.1.1.1.0
-
-tuple_of : (P : Row → Type 0) → ((x : Row) → P x) → (xs : List Row) → EachOf P xs
-tuple_of P f [] = tt
-tuple_of P f (x ∷ xs) = (f x, tuple_of P f xs)
-
-pub tuple : (P : Row → Type 0) → ((x : Row) → P x) → Each P
-tuple P f = tuple_of P f all_rows

@@ -7,7 +7,7 @@ use native.Mathlib.Omega.{arith}
 use mathlib.Core.Bool.{Bool, true, false, not, cond, true≢false}
 use lib.Dec.{T, ltb, not_T, ltb→lt}
 use lib.Pow.{pow_pos}
-use lib.Ieee.{Float, nan, inf, fin, binary64, size, fits, is_nan, ne, lt, div, of_bits, to_bits, nan_bits}
+use lib.Ieee.{Float, nan, inf, fin, binary64, size, fits, is_nan, ne, lt, of_bits, to_bits, nan_bits}
 use lib.Ieee.Bits.{of_bits-fits, nan_bits_above}
 use lib.Ieee.Compare.{differs_from_itself, nan_differs}
 use Rattle.fields.proofs.OwnRounding.{one_value}
@@ -37,9 +37,8 @@ pub minus_zero_answer : of_bits binary64 0 ≡ root_of (of_bits binary64 0x8000_
 unfolding root_of lt of_bits
 minus_zero_answer = refl
 
--- 0 / 0 is a NaN
-pub high_answer : (x : Float) → T (fits binary64 x) → 0x7ff0_0000_0000_0000 ≤ to_bits binary64 x → (to_bits binary64 x ≡ 0x8000_0000_0000_0000 → ⊥) → div binary64 (of_bits binary64 0) (of_bits binary64 0) ≡ root_of x
-unfolding root_of div of_bits
+pub high_answer : (x : Float) → T (fits binary64 x) → 0x7ff0_0000_0000_0000 ≤ to_bits binary64 x → (to_bits binary64 x ≡ 0x8000_0000_0000_0000 → ⊥) → nan ≡ root_of x
+unfolding root_of
 high_answer nan f h n = refl
 high_answer (inf s) f h n = refl
 high_answer (fin false m e) f h n = absurd (not-le_of_lt (plus_pattern m e f) h)

@@ -10,10 +10,9 @@ fn show(rt: &impl Print, b: u64) -> io::Result<()> {
     if b % 0x8000_0000_0000_0000 > 0x7ff0_0000_0000_0000 {
         return Ok(());
     }
-    let answer = root::root(f64::from_bits(b));
-    match answer {
-        root::Root::Value(r) => println!(rt; "{:016x}", f64::to_bits(r)),
-        root::Root::Refused => println!(rt; "refused 23"),
+    match root::root(f64::from_bits(b)) {
+        Some(r) => println!(rt; "{:016x}", r.to_bits()),
+        None => println!(rt; "refused 23"),
     }
 }
 

@@ -45,15 +45,6 @@ module _ {f : ℕ → HeadFlow} {at n : ℕ} {heads flows highest lowest midHead
   pub heads_length : length midHeads ≡ length heads
   heads_length = row_long keep_new _ heads at n u.stepped.0
 
-  pub flows_length : length midFlows ≡ length flows
-  flows_length = row_long keep_new _ flows at n u.stepped.1
-
-  pub highest_length : length midHighest ≡ length highest
-  highest_length = row_long raised _ highest at n u.stepped.2
-
-  pub lowest_length : length midLowest ≡ length lowest
-  lowest_length = row_long lowered _ lowest at n u.stepped.3
-
   pub heads_kept : (j : ℕ) → at + n ≤ j → entry midHeads j ≡ entry heads j
   heads_kept = row_kept keep_new _ heads at n u.stepped.0
 

@@ -6,11 +6,12 @@ use mathlib.Core.List.{List}
 use Prim.Native.Nat.{ℕ, zero, suc, ◌+◌, ◌*◌, ◌/◌, ◌<◌, ◌≤◌}
 use native.Mathlib.Omega.{arith}
 use lib.ListN.{length, get_or}
+use Rattle.std.specs.Prelude.{Ok, Err, ⊤}
 use lib.Ieee.{Float, nan, lt, of_bits}
 use lib.Ieee.Scale.{finite}
 use Rattle.loops.specs.Loops.{all_below, first_below}
 use Rattle.loops.proofs.All.{all_at}
-use Rattle.loops.proofs.First.{first_none, first_more, first_stop}
+use Rattle.loops.proofs.First.{first_more, first_stop}
 use Rattle.wave.specs.declared.HeadFlow.{HeadFlow}
 use Rattle.job.specs.Format.{section_in}
 use Rattle.job.specs.Questions.{finite_section, section_fits, initial_fits}
@@ -18,7 +19,9 @@ use Rattle.loops.proofs.Tests.{both}
 use Rattle.job.proofs.SectionLaws.{finite_section_lem}
 use Rattle.recurrence.specs.State.{no_drive}
 use Rattle.recurrence.specs.Scan.{Fault, none, fault, not_finite, parted, finite_point, finite_drive, fault_of, earlier, acceptable_at}
-use Rattle.section.specs.Faults.{floor_in, head_flow_point, fault_with, is_sound, sound_with, acceptable_in}
+use Rattle.section.specs.declared.Fault as Code
+use Rattle.section.specs.declared.Fault.TheVariants.{NotFinite, Parted}
+use Rattle.section.specs.Faults.{floor_in, head_flow_point, fault_with, is_sound, sound_with, found_fault, acceptable_in}
 use Rattle.section.proofs.Entries.{read}
 
 -- ---- the floors of table 4, where question 14 has a yes
@@ -67,23 +70,20 @@ unfolding is_sound
 sound_none none h = refl
 sound_none (fault c s) h = cc
 
--- s of n sections have shown no fault
-pub record NoneYet (v : ℕ → Fault) (n s : ℕ) : Type 0 where
-  pub within : s ≤ n
-  pub clear : first_below earlier none v s ≡ none
+-- no fault comes before one that is found
+pub stays : (e : Code.Fault) (b : Fault) → earlier (found_fault (Err e)) b ≡ found_fault (Err e)
+unfolding earlier found_fault
+stays (NotFinite s) b = refl
+stays (Parted s) b = refl
 
-module _ (v : ℕ → Fault) {n : ℕ} where
-  pub none_yet : NoneYet v n 0
-  none_yet = record { within = omega arith; clear = first_none earlier none v }
+-- the first s sections have shown no fault: what section s shows
+module _ (v : ℕ → Fault) {s : ℕ} (clear : first_below earlier none v s ≡ none) where
+  pub none_more : {x : ⊤} → found_fault (Ok x) ≡ v s → first_below earlier none v (s + 1) ≡ none
+  unfolding found_fault
+  none_more e = first_more earlier none v skip clear (sym e)
 
-  pub none_more : {s : ℕ} → NoneYet v n s → s < n → v s ≡ none → NoneYet v n (s + 1)
-  none_more u l e = record { within = omega arith; clear = first_more earlier none v skip u.clear e }
-
-  pub none_stop : {s : ℕ} {f : Fault} → NoneYet v n s → s < n → f ≡ v s → ((b : Fault) → earlier f b ≡ f) → f ≡ first_below earlier none v n
-  none_stop {s} {f} u l e stays = e ∙ sym (first_stop earlier none v skip s n l (λ b. rw (← e) (stays b)) u.clear)
-
-  pub none_done : {s : ℕ} → NoneYet v n s → n ≤ s → first_below earlier none v n ≡ none
-  none_done {s} u l = let e : n ≡ s = omega arith in rw e u.clear
+  pub none_stop : (e : Code.Fault) → found_fault (Err e) ≡ v s → {n : ℕ} → s < n → found_fault (Err e) ≡ first_below earlier none v n
+  none_stop e is {n} l = is ∙ sym (first_stop earlier none v skip s n l (λ b. rw (← is) (stays e b)) clear)
 
 clear_to : (v : ℕ → Fault) (n : ℕ) → ((s : ℕ) → s < n → v s ≡ none) → first_below earlier none v n ≡ none
 unfolding first_below earlier

@@ -1,5 +1,5 @@
 -- The scan and question 22 over lent rows: what they ask of section s, by the recurrence's own definitions. Definitions only.
-use Rattle.std.specs.Prelude.{◌≡◌, Bool, true, false, cond, List, ℕ, ◌*◌, ◌≤◌, length, Float}
+use Rattle.std.specs.Prelude.{◌≡◌, Bool, true, false, cond, List, ℕ, ◌*◌, ◌≤◌, length, Float, Result, Ok, Err, ⊤}
 use Rattle.loops.specs.Loops.{first_below}
 use Rattle.fields.specs.Real.{zero64}
 use Rattle.wave.specs.declared.HeadFlow.{HeadFlow}
@@ -7,8 +7,8 @@ use Rattle.job.specs.Format.{section_in}
 use Rattle.job.specs.Questions.{initial_fits}
 use Rattle.recurrence.specs.State.{Point, no_drive}
 use Rattle.recurrence.specs.Scan.{Fault, none, fault, not_finite, parted, fault_of, earlier, acceptable_at}
-use Rattle.section.specs.declared.findings.Scan.{Scan}
-use Rattle.section.specs.declared.findings.Scan.TheVariants.{Sound, NotFinite, Parted}
+use Rattle.section.specs.declared.Fault as Code
+use Rattle.section.specs.declared.Fault.TheVariants.{NotFinite, Parted}
 use Rattle.section.specs.SectionRows.{entry}
 
 -- the floor head of section s, in the bytes of table 4
@@ -45,10 +45,10 @@ unfoldable pub first_fault : List ℕ → ℕ → (ℕ → HeadFlow) → Fault
 first_fault initial n x = first_below earlier none (fault_at initial x) n
 
 -- the fault that an answer of the code stands for
-unfoldable pub found_fault : Scan → Fault
-found_fault Sound = none
-found_fault (NotFinite s) = fault not_finite s
-found_fault (Parted s) = fault parted s
+unfoldable pub found_fault : Result ⊤ Code.Fault → Fault
+found_fault (Ok _) = none
+found_fault (Err (NotFinite s)) = fault not_finite s
+found_fault (Err (Parted s)) = fault parted s
 
 -- Table 4, in which question 14 has a yes, and the rows of heads and flows have the first n sections.
 pub record Covered (initial : List ℕ) (n : ℕ) (heads flows : List Float) : Type 0 where

@@ -12,10 +12,16 @@ ghost use Rattle.section.specs.SectionRows as row;
 ghost use Rattle.section.specs.Faults as scan;
 
 mod envelopes;
-pub mod findings;
 
-pub use findings::Scan;
 use wave::HeadFlow;
+
+// What a scan of the sections finds: the first section whose head or flow is not finite, or the first whose head is
+// below its floor.
+#[derive(Clone, Copy, Debug, PartialEq, Eq, Hash)]
+pub enum Fault {
+    NotFinite(usize),
+    Parted(usize),
+}
 
 // ---- whole rows
 
@@ -24,11 +30,7 @@ pub fn clear_row(n: usize, dst: &mut [f64])
     requires { n ≤ length dst.old }
     ensures { dst.new ≡ fill (λ (s : ℕ). zero64) dst.old 0 n }
 {
-    let mut at = 0;
-    while at < n {
-        dst[at] = 0.0;
-        at += 1;
-    }
+    dst[..n].fill(0.0);
 }
 
 // ---- one section in the rows
@@ -115,21 +117,21 @@ pub fn unsound(head: f64, flow: f64, floor: f64) -> u64
     ensures { (result ≤ 1) × (result ≡ scan.counted floor record { head = head; flow = flow }) }
 {
     let sound = both_finite(head, flow) & !(head < floor);
-    if sound { 0 } else { 1 }
+    u64::from(!sound)
 }
 
-// What section s shows, by its head, flow and floor: 40 before 41.
-pub fn fault_of(head: f64, flow: f64, floor: f64, s: usize) -> Scan
+// The fault of section s, by its head, flow and floor: 40 before 41.
+pub fn fault_of(head: f64, flow: f64, floor: f64, s: usize) -> Result<(), Fault>
     ensures { scan.found_fault result ≡ scan.fault_with floor s record { head = head; flow = flow } }
 {
     let finite = both_finite(head, flow);
     if !finite {
-        return Scan::NotFinite(s);
+        return Err(Fault::NotFinite(s));
     }
     if head < floor {
-        return Scan::Parted(s);
+        return Err(Fault::Parted(s));
     }
-    Scan::Sound
+    Ok(())
 }
 
 // ---- question 22
@@ -140,7 +142,7 @@ fn unacceptable(head: f64, flow: f64, highest: f64, lowest: f64, floor: f64) -> 
         record { head = head; flow = flow; highest = highest; lowest = lowest }) 0 1) }
 {
     let sound = both_finite(head, flow) & both_finite(highest, lowest) & !(head < floor);
-    if sound { 0 } else { 1 }
+    u64::from(!sound)
 }
 
 // Question 22 over the first n sections: those that are not acceptable are counted, so that the loop has no branch.
@@ -158,17 +160,14 @@ pub fn acceptable(
         heads.now flows.now highest.now lowest.now) n }
 {
     let mut bad: u64 = 0;
-    let mut s = 0;
-    while s < n {
-        bad = bad
-            + unacceptable(
-                heads[s],
-                flows[s],
-                highest[s],
-                lowest[s],
-                floor_at(initial, s),
-            );
-        s += 1;
+    for s in 0..n {
+        bad += unacceptable(
+            heads[s],
+            flows[s],
+            highest[s],
+            lowest[s],
+            floor_at(initial, s),
+        );
     }
     bad == 0
 }

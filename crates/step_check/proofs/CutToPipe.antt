@@ -14,7 +14,7 @@ use Rattle.wave.specs.declared.HeadFlow.{HeadFlow}
 use Rattle.job.specs.Job.{Laid, sections}
 use Rattle.job.specs.Format.{job_of, friction_table, initial_table}
 use Rattle.job.proofs.Accepted.{initial_length, initial_fits_lem}
-use Rattle.recurrence.specs.Step.{between}
+use Rattle.recurrence.specs.Step.{AlongPipes, between}
 use Rattle.loops.proofs.All.{all_cong}
 use Rattle.section.specs.Faults.{floor_in, sound_with}
 use Rattle.section.specs.SectionRows.{ruled}
@@ -101,17 +101,18 @@ module _ (job : List ℕ) (heads flows : List Float) (lent : Lent job heads flow
 
   -- ---- the floors
 
-  pub floored : Floored (floors_of (initial_table job) l) (length (cut_to l heads))
+  pub floored : Floored (floors_of (initial_table job) l) (l.pipe.reaches + 1)
   floored =
-      let n = cut_length heads lent.heads_long in
-      floored_part (initial_table job) (l.first_section * 24) (floor_bytes_of l) l.first_section _ refl (omega (arith, n)) (omega (arith, here, initial_length job lent.accepted)) (initial_fits_lem job lent.accepted)
+      floored_part (initial_table job) (l.first_section * 24) (floor_bytes_of l) l.first_section _ refl (omega arith) (omega (arith, here, initial_length job lent.accepted)) (initial_fits_lem job lent.accepted)
 
-  -- what the code counts in the parts
+  -- what the code counts in rows w that hold the pipe's sections
   pub inner_judged :
-      {friction initial : List ℕ} → friction ≡ friction_table job → initial ≡ initial_table job → (r : ℕ)
-      → eqb r 0 ≡ all_below (sound_inner (floors_of initial l) (one_pipe (friction_of friction l) (cut_to l heads) (cut_to l flows)) l.pipe.S) (length (cut_to l heads) - 2)
+      {initial : List ℕ} → initial ≡ initial_table job → (w : AlongPipes) (S : Float) {count : ℕ} → count ≡ l.pipe.reaches + 1
+      → ((i : ℕ) → suc i < l.pipe.reaches → inner_at w S i ≡ whole i)
+      → (r : ℕ) → eqb r 0 ≡ all_below (sound_inner (floors_of initial l) w S) (count - 2)
       → eqb r 0 ≡ all_below (λ i. sound_with (floor_in (initial_table job) (l.first_section + suc i)) (whole i)) (l.pipe.reaches - 1)
-  inner_judged ef ei r e =
-      rw (ef, ei, count_inner) at e
+  inner_judged ei w S n same r e =
+      let inner : l.pipe.reaches + 1 - 2 ≡ l.pipe.reaches - 1 = omega arith in
+      rw (ei, n, inner) at e
       ∙ all_cong (l.pipe.reaches - 1) _ _
-      (λ i b. ap₂ sound_with (rw (add-one i) (floor_part (initial_table job) (l.first_section * 24) (floor_bytes_of l) l.first_section (suc i) refl (omega arith))) (cut_is i (omega arith)))
+      (λ i b. ap₂ sound_with (rw (add-one i) (floor_part (initial_table job) (l.first_section * 24) (floor_bytes_of l) l.first_section (suc i) refl (omega arith))) (same i (omega arith)))

@@ -6,6 +6,7 @@ use Prim.Native.Nat.{ℕ, zero, suc, ◌+◌, ◌-◌, ◌*◌, ◌≤◌}
 use native.Mathlib.Nat.{add-zero, add-suc}
 use native.Mathlib.Omega.{arith}
 use lib.Ieee.{Float}
+use Rattle.std.specs.Prelude.{Ok, Err, ⊤}
 use Rattle.wave.specs.declared.Node.{Node}
 use Rattle.loops.specs.Loops.{first_below}
 use Rattle.wave.specs.declared.HeadFlow.{HeadFlow}
@@ -13,7 +14,9 @@ use Rattle.job.specs.Job.{Laid}
 use Rattle.job.specs.Format.{initial_table}
 use Rattle.recurrence.specs.Scan.{Fault, none, fault, earlier}
 use Rattle.loops.proofs.First.{first_cong}
-use Rattle.section.specs.Faults.{floor_in, fault_with, fault_at}
+use Rattle.section.specs.declared.Fault as Code
+use Rattle.section.specs.Faults.{floor_in, fault_with, fault_at, found_fault}
+use Rattle.section.proofs.Soundness.{stays}
 use Rattle.pipe_layout.specs.Layout.{LaidAt}
 use Rattle.node_sums.specs.FromRows.{new_section}
 use Rattle.spare_ends.specs.Spare.{EndsIn}
@@ -35,17 +38,22 @@ unfolding first_below
 first_join v a zero = rw (add-zero a) (earlier_none (first_below earlier none v a))
 first_join v a (suc n) = rw (add-suc a n, first_join v a n) (earlier_assoc (first_below earlier none v a) (first_below earlier none (λ i. v (a + i)) n) (v (a + n)))
 
--- no fault so far; one more piece has the fault f, or none
-module _ (v : ℕ → Fault) (a n : ℕ) {f : Fault} (clear : first_below earlier none v a ≡ none) (piece : f ≡ first_below earlier none (λ i. v (a + i)) n) where
-  pub first_after : first_below earlier none v (a + n) ≡ f
+-- no fault so far: what the n sections from a on show
+module _ (v : ℕ → Fault) (a n : ℕ) (clear : first_below earlier none v a ≡ none) where
+  after : {f : Fault} → f ≡ first_below earlier none (λ i. v (a + i)) n → first_below earlier none v (a + n) ≡ f
   unfolding earlier
-  first_after = first_join v a n ∙ rw (clear, piece)
+  after piece = first_join v a n ∙ rw (clear, piece)
+
+  pub first_after : {x : ⊤} → found_fault (Ok x) ≡ first_below earlier none (λ i. v (a + i)) n → first_below earlier none v (a + n) ≡ none
+  unfolding found_fault
+  first_after piece = after piece
 
   -- a fault is that of all sections
-  pub first_found : (m : ℕ) → a + n ≤ m → ((b : Fault) → earlier f b ≡ f) → f ≡ first_below earlier none v m
-  first_found m h stays =
-      let e : a + n + (m - (a + n)) ≡ m = omega arith in
-      sym (ap (first_below earlier none v) (sym e) ∙ first_join v (a + n) (m - (a + n)) ∙ rw first_after (stays _))
+  pub first_found : (e : Code.Fault) → found_fault (Err e) ≡ first_below earlier none (λ i. v (a + i)) n → {m : ℕ} → a + n ≤ m
+      → found_fault (Err e) ≡ first_below earlier none v m
+  first_found e piece {m} h =
+      let all : a + n + (m - (a + n)) ≡ m = omega arith in
+      sym (ap (first_below earlier none v) (sym all) ∙ first_join v (a + n) (m - (a + n)) ∙ rw (after piece) (stays e _))
 
 -- what a section of a pipe whose ends stand in the spare shows, by what the code has of it
 pub fault_by_spare_lem :
@@ -54,7 +62,7 @@ pub fault_by_spare_lem :
     → f ≡ fault_by_spare job l spare at heads flows i
 fault_by_spare_lem job l spare at heads flows i ef ez ex = ef ∙ rw (ez, ex)
 
--- such a pipe, where the spare has those of a step, and the walk is at the pipe's first section
+-- the first fault of a pipe whose ends stand in the spare, where those are the ends of a step, and the walk is at the pipe's first section
 pub pipe_searched :
     (job : List ℕ) (nodes : ℕ → Node) (heads flows spare : List Float) → EndsIn job nodes heads flows spare → (p : ℕ) (l : Laid) → LaidAt job p l
     → {first : ℕ} → l.first_section ≡ first → {f : Fault} → f ≡ first_below earlier none (fault_by_spare job l spare (p * 4) heads flows) (l.pipe.reaches + 1)

@@ -10,14 +10,17 @@ ghost use Rattle.job.specs.Questions.{Accepted};
 ghost use Rattle.recurrence.specs.Scan.{none, earlier};
 ghost use Rattle.recurrence.specs.Step.{between};
 ghost use Rattle.section.specs.Faults.{floor_in, fault_at, first_fault, found_fault, is_sound, sound_with, counted};
+ghost use Rattle.inner_sections.specs.CutPipes.{along, section_count};
+ghost use Rattle.inner_sections.specs.InnerSections.{inner_at};
 ghost use Rattle.pipe_layout.specs.Layout.{laid_of, LaidPipe};
 ghost use Rattle.node_sums.specs.FromRows.{along_rows, Lent, new_section};
 ghost use Rattle.spare_ends.specs.Spare.{end_in, EndsIn};
 ghost use Rattle.step_check.specs.BySpare.{new_by_spare, fault_by_spare};
 
-use job::walk::Walk;
+use inner_check::FlooredPipe;
+use inner_sections::CutPipe;
 use pipe_layout::Laid;
-use section::Scan;
+use section::Fault;
 use wave::HeadFlow;
 
 // The floor head of section s.
@@ -28,6 +31,22 @@ fn floor_of(job: &[u8], s: usize) -> f64
     section::floor_at(job::tables::initial(job), s)
 }
 
+// The pipe, which is l, with the parts of table 3 and of the rows that belong to it. Its inner sections after the step
+// are those of the whole.
+fn cut<'a>(job: &'a [u8], l: Laid, heads: &'a [f64], flows: &'a [f64]) -> CutPipe<'a>
+    requires { (Lent job.now heads.now flows.now) × (LaidPipe job.now (laid_of l)) }
+    ensures count { section_count result ≡ l.reaches + 1 }
+    ensures inner { (i : ℕ) → suc i < l.reaches
+        → inner_at (along result) result.s i ≡ between (along_rows job.now heads.now flows.now) (laid_of l) i }
+{
+    let friction = job::tables::friction(job);
+    let a = l.first_reach * 8;
+    let b = a + l.reaches * 8;
+    let first = l.first_section;
+    let end = first + l.reaches + 1;
+    CutPipe::new(&friction[a..b], l.s, &heads[first..end], &flows[first..end])
+}
+
 // 0 exactly where no inner section of a pipe has a fault after the step.
 fn inner_faults(job: &[u8], l: Laid, heads: &[f64], flows: &[f64]) -> u64
     requires { (Lent job.now heads.now flows.now) × (LaidPipe job.now (laid_of l)) }
@@ -36,21 +55,17 @@ fn inner_faults(job: &[u8], l: Laid, heads: &[f64], flows: &[f64]) -> u64
         (result ≤ l.reaches + 1) × (eqb result 0 ≡ all_below (λ i. sound_with
         (floor_in (initial_table job.now) ((laid_of l).first_section + suc i)) (new i)) (l.reaches - 1)) }
 {
-    let friction = job::tables::friction(job);
     let initial = job::tables::initial(job);
-    let a = l.first_reach * 8;
-    let b = a + l.reaches * 8;
     let first = l.first_section;
     let end = first + l.reaches + 1;
     let from = first * 24;
     let to = end * 24;
-    inner_check::faults(
-        &friction[a..b],
-        &initial[from..to],
-        l.s,
-        &heads[first..end],
-        &flows[first..end],
-    )
+    let cut = cut(job, l, heads, flows);
+    let floored = FlooredPipe {
+        cut,
+        floors: &initial[from..to],
+    };
+    floored.faults()
 }
 
 // The count of faults at both ends of a pipe, which stand in the spare from `at` on.
@@ -78,16 +93,12 @@ fn faults(job: &[u8], heads: &[f64], flows: &[f64], spare: &[f64]) -> u64
         (new_section job.now nodes heads.now flows.now) s))
         (sections (job_of job.now)) }
 {
-    let count = pipe_layout::pipe_count(job);
     let mut bad: u64 = 0;
-    let mut at = Walk::begun();
-    while at.pipe < count {
-        let l = pipe_layout::pipe_at(job, at);
+    for l in pipe_layout::each_pipe(job) {
         let within = inner_faults(job, l, heads, flows);
-        let ends = end_faults(job, l, at.pipe * 4, spare);
+        let ends = end_faults(job, l, l.number * 4, spare);
         let here = within + ends;
-        bad = bad + here;
-        at = at.past(l.reaches);
+        bad += here;
     }
     bad
 }
@@ -114,45 +125,33 @@ fn new_at(
     if i == l.reaches {
         return spare_ends::end_at(spare, at + 2);
     }
-    let friction = job::tables::friction(job);
-    let a = l.first_reach * 8;
-    let b = a + l.reaches * 8;
-    let first = l.first_section;
-    let end = first + l.reaches + 1;
-    inner_check::inner_at(
-        &friction[a..b],
-        l.s,
-        i - 1,
-        &heads[first..end],
-        &flows[first..end],
-    )
+    inner_check::inner_at(&cut(job, l, heads, flows), i - 1)
 }
 
 // The first section of pipe p, which is l, that has a fault after the step.
-fn first_in_pipe(job: &[u8], l: Laid, p: usize, heads: &[f64], flows: &[f64], spare: &[f64]) -> Scan
+fn first_in_pipe(
+    job: &[u8],
+    l: Laid,
+    p: usize,
+    heads: &[f64],
+    flows: &[f64],
+    spare: &[f64],
+) -> Result<(), Fault>
     requires { (Lent job.now heads.now flows.now) × (LaidPipe job.now (laid_of l))
         × (p * 4 + 4 ≤ length spare.now) }
     ensures { found_fault result ≡ first_below earlier none (fault_by_spare job.now (laid_of l)
         spare.now (p * 4) heads.now flows.now) (l.reaches + 1) }
 {
-    let count = l.reaches + 1;
-    let mut i = 0;
-    while i < count {
+    for i in 0..=l.reaches {
         let x = new_at(job, l, p, i, heads, flows, spare);
         let s = l.first_section + i;
-        let found = section::fault_of(x.head, x.flow, floor_of(job, s), s);
-        match found {
-            Scan::Sound => {}
-            Scan::NotFinite(_) => return found,
-            Scan::Parted(_) => return found,
-        }
-        i += 1;
+        section::fault_of(x.head, x.flow, floor_of(job, s), s)?;
     }
-    Scan::Sound
+    Ok(())
 }
 
 // The first section that has a fault after the step whose ends are in the spare.
-fn first_fault(job: &[u8], heads: &[f64], flows: &[f64], spare: &[f64]) -> Scan
+fn first_fault(job: &[u8], heads: &[f64], flows: &[f64], spare: &[f64]) -> Result<(), Fault>
     requires { (Lent job.now heads.now flows.now)
         × (pipe_count (pipe_table job.now) * 4 ≤ length spare.now) }
     ensures { (nodes : ℕ → Node) → EndsIn job.now nodes heads.now flows.now
@@ -160,24 +159,15 @@ fn first_fault(job: &[u8], heads: &[f64], flows: &[f64], spare: &[f64]) -> Scan
         ≡ first_fault (initial_table job.now) (sections (job_of job.now))
         (new_section job.now nodes heads.now flows.now) }
 {
-    let count = pipe_layout::pipe_count(job);
-    let mut at = Walk::begun();
-    while at.pipe < count {
-        let l = pipe_layout::pipe_at(job, at);
-        let found = first_in_pipe(job, l, at.pipe, heads, flows, spare);
-        match found {
-            Scan::Sound => {}
-            Scan::NotFinite(_) => return found,
-            Scan::Parted(_) => return found,
-        }
-        at = at.past(l.reaches);
+    for l in pipe_layout::each_pipe(job) {
+        first_in_pipe(job, l, l.number, heads, flows, spare)?;
     }
-    Scan::Sound
+    Ok(())
 }
 
 // The scan of the step whose ends are in the spare, before it is committed: the faults are counted, and the
 // first is looked for only where there is one.
-pub fn check(job: &[u8], heads: &[f64], flows: &[f64], spare: &[f64]) -> Scan
+pub fn check(job: &[u8], heads: &[f64], flows: &[f64], spare: &[f64]) -> Result<(), Fault>
     requires { (Lent job.now heads.now flows.now)
         × (pipe_count (pipe_table job.now) * 4 ≤ length spare.now) }
     ensures { (nodes : ℕ → Node) → EndsIn job.now nodes heads.now flows.now
@@ -186,7 +176,7 @@ pub fn check(job: &[u8], heads: &[f64], flows: &[f64], spare: &[f64]) -> Scan
         (new_section job.now nodes heads.now flows.now) }
 {
     if faults(job, heads, flows, spare) == 0 {
-        return Scan::Sound;
+        return Ok(());
     }
     first_fault(job, heads, flows, spare)
 }

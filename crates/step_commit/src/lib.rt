@@ -12,7 +12,6 @@ ghost use Rattle.node_sums.specs.FromRows.{along_rows, Lent, new_section};
 ghost use Rattle.spare_ends.specs.Spare.{end_in, EndsIn};
 ghost use Rattle.step_check.specs.BySpare.{new_by_spare};
 
-use job::walk::Walk;
 use pipe_layout::Laid;
 
 // Overwrites a pipe's inner sections.
@@ -107,11 +106,7 @@ pub fn commit(
         spare.now → Stepped (new_section job.now nodes heads.old flows.old)
         0 (sections (job_of job.now)) heads flows highest lowest }
 {
-    let count = pipe_layout::pipe_count(job);
-    let mut at = Walk::begun();
-    while at.pipe < count {
-        let l = pipe_layout::pipe_at(job, at);
-        commit_pipe(job, l, at.pipe, spare, heads, flows, highest, lowest);
-        at = at.past(l.reaches);
+    for l in pipe_layout::each_pipe(job) {
+        commit_pipe(job, l, l.number, spare, heads, flows, highest, lowest);
     }
 }

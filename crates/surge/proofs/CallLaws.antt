@@ -2,6 +2,8 @@
 use mathlib.Core.Path.{◌≡◌, refl, sym, ap, ◌∙◌}
 use mathlib.Core.Bool.{Bool, true, false, cond}
 use mathlib.Core.List.{List, map}
+use Rattle.std.specs.Prelude as Std
+use Rattle.std.specs.Prelude.{Ok, Err, IsErrAnd}
 use Prim.Native.Nat.{ℕ, ◌+◌, ◌-◌, ◌*◌, ◌≤◌}
 use native.Mathlib.Omega.{arith}
 use lib.Dec.{leb, eqb}
@@ -14,6 +16,9 @@ use Rattle.loops.specs.Fill.{fill}
 use Rattle.job.specs.Job.{Job, sections, initial_at}
 use Rattle.job.specs.Format.{job_of, listing_steps, pipe_table, node_table, pipe_count, node_count}
 use Rattle.reader.specs.Answer as Read
+use Rattle.job.specs.declared.questions.Question.{Question}
+use Rattle.job.specs.declared.questions.Question.TheVariants.{StepsInAll, LentState}
+use Rattle.job.specs.Refusals.{number}
 use Rattle.job.specs.Questions.{refusal, Accepted}
 use Rattle.job.proofs.Accepted.{nodes_length}
 use Rattle.recurrence.specs.State.{Point, Drive, State, start_point, start_drive, start_state}
@@ -27,12 +32,12 @@ use Rattle.loops.proofs.Listed.{map-listed, listed_same}
 use Rattle.recurrence.proofs.EachRow.{each}
 use Rattle.recurrence.proofs.RowLaws.{Enough, state_held, row_left}
 use Rattle.loops.proofs.Fill.{take_filled}
-use Rattle.surge.specs.declared.answer.Answer.{Answer}
-use Rattle.surge.specs.declared.answer.Answer.TheVariants.{Refused, Done}
-use Rattle.time_step.specs.declared.Ended.{Ended}
+use Rattle.surge.specs.declared.answer.Halt.{Halt}
+use Rattle.surge.specs.declared.answer.Halt.TheVariants.{Refused}
+use Rattle.time_step.specs.declared.Stopped.{Stopped}
 use Rattle.call_questions.specs.Opening.{first_asked}
 use Rattle.surge.specs.Answers.{paper_answer, call_leaves}
-use Rattle.time_step.specs.StepsInRows.{SameRest, result_of}
+use Rattle.time_step.specs.StepsInRows.{Ready, SameRest, result_of}
 use Rattle.pipe_layout.proofs.Acceptance.{four_a_pipe}
 use Rattle.time_step.proofs.StepInRows.{filled_rest}
 
@@ -59,52 +64,48 @@ module _ (job : List ℕ) (r : Rows) where
       go false yes-20 e = cc
 
   -- a yes to all of them
-  pub record Opened (s : ℕ) : Type 0 where
-    pub accepted : Accepted job
-    pub enough : enough_lent j r ≡ true
-    pub count : s ≡ sections j
-
-  pub opened : (s m : ℕ) → Read.accepted s m ≡ first_asked job enough → Opened s
+  pub opened : (s m : ℕ) → Read.accepted s m ≡ first_asked job enough → (Ready job r) × (s ≡ sections j)
   unfolding first_asked enough_lent
   opened s m e = go (eqb (refusal job) 0) refl enough refl e
     where
       go : (read : Bool) → eqb (refusal job) 0 ≡ read → (yes-20 : Bool) → enough ≡ yes-20
-          → Read.accepted s m ≡ cond read (cond yes-20 (Read.accepted (sections j) (listing_steps job)) (Read.refused 20)) (Read.refused (refusal job)) → Opened s
-      go true er true ee e = record { accepted = eqb-true _ _ er; enough = ee; count = cc }
+          → Read.accepted s m ≡ cond read (cond yes-20 (Read.accepted (sections j) (listing_steps job)) (Read.refused 20)) (Read.refused (refusal job))
+          → (Ready job r) × (s ≡ sections j)
+      go true er true ee e = (record { accepted = eqb-true _ _ er; enough = ee }, cc)
       go true er false ee e = let z : ◌≡◌ {A = ℕ} 0 1 = cc in absurd (omega arith)
       go false er yes-20 ee e = let z : ◌≡◌ {A = ℕ} 0 1 = cc in absurd (omega arith)
 
-  first_passed : {s : ℕ} → Opened s → (call : Job → Result) → read_first job (λ j. ask 20 (enough_lent j r) (call j)) ≡ call j
+  first_passed : Ready job r → (call : Job → Result) → read_first job (λ j. ask 20 (enough_lent j r) (call j)) ≡ call j
   unfolding read_first ask
   first_passed o call = rw (eq-eqb (refusal job) 0 o.accepted, o.enough)
 
   -- a refused call leaves the rows as they were
-  refused_leaves : (q : ℕ) {x : Result} → x ≡ refused q → call_leaves r (Refused q) ≡ called job r x
+  refused_leaves : (q : Question) {x : Result} → x ≡ refused (number q) → call_leaves r (Err (Refused q)) ≡ called job r x
   unfolding called rows_after answer_of paper_answer
   refused_leaves q e = rw e
 
-  pub start_refused : (q : ℕ) → Read.refused q ≡ first_asked job enough → call_leaves r (Refused q) ≡ start_call job r
+  pub start_refused : (q : Question) → Read.refused (number q) ≡ first_asked job enough → call_leaves r (Err (Refused q)) ≡ start_call job r
   unfolding start_call start_result start
-  start_refused q e = refused_leaves q (first_refused q e _)
+  start_refused q e = refused_leaves q (first_refused (number q) e _)
 
-  pub run_refused : (m N q : ℕ) → Read.refused q ≡ first_asked job enough → call_leaves r (Refused q) ≡ run_on_call job m N r
+  pub run_refused : (m N : ℕ) (q : Question) → Read.refused (number q) ≡ first_asked job enough → call_leaves r (Err (Refused q)) ≡ run_on_call job m N r
   unfolding run_on_call run_on_result run_on
-  run_refused m N q e = refused_leaves q (first_refused q e _)
+  run_refused m N q e = refused_leaves q (first_refused (number q) e _)
 
-  module _ {s : ℕ} (o : Opened s) where
+  module _ (o : Ready job r) where
     pub start_ran : start_call job r ≡ called job r (ran (started j) completed)
     unfolding start_call start_result start
     start_ran = ap (called job r) (first_passed o _)
 
     module _ (m N : ℕ) where
       -- questions 21 and 22 of the run-on
-      pub run_beyond : within_limit m N ≡ false → call_leaves r (Refused 21) ≡ run_on_call job m N r
+      pub run_beyond : within_limit m N ≡ false → call_leaves r (Err (Refused StepsInAll)) ≡ run_on_call job m N r
       unfolding run_on_call run_on_result run_on ask
-      run_beyond l = refused_leaves 21 (first_passed o _ ∙ rw l)
+      run_beyond l = refused_leaves StepsInAll (first_passed o _ ∙ rw l)
 
-      pub run_unacceptable : within_limit m N ≡ true → acceptable j (state_in j r) ≡ false → call_leaves r (Refused 22) ≡ run_on_call job m N r
+      pub run_unacceptable : within_limit m N ≡ true → acceptable j (state_in j r) ≡ false → call_leaves r (Err (Refused LentState)) ≡ run_on_call job m N r
       unfolding run_on_call run_on_result run_on ask
-      run_unacceptable l a = refused_leaves 22 (first_passed o _ ∙ rw (l, a))
+      run_unacceptable l a = refused_leaves LentState (first_passed o _ ∙ rw (l, a))
 
       pub run_ran : within_limit m N ≡ true → acceptable j (state_in j r) ≡ true → run_on_call job m N r ≡ called job r (steps j N m (state_in j r))
       unfolding run_on_call run_on_result run_on ask
@@ -114,6 +115,13 @@ module _ (job : List ℕ) (r : Rows) where
 pub limit_kept : (m N : ℕ) → within_limit m N ≡ true → m + N ≤ 1000000
 unfolding within_limit
 limit_kept m N h = let t = both (leb m 1000000) (leb N (1000000 - m)) h in omega (arith, leb-true m 1000000 t.0, leb-true N (1000000 - m) t.1)
+
+-- ---- what a stop is told as, by what `?` makes of it
+
+pub stop_told : (e : Stopped) (answer : Std.Result ℕ Halt) → IsErrAnd answer (λ h. (st : State) → paper_answer (Err h) ≡ answer_of (result_of (Err e) st))
+    → (st : State) → paper_answer answer ≡ answer_of (result_of (Err e) st)
+stop_told e (Ok n) h st = absurd h
+stop_told e (Err x) h st = h st
 
 -- ---- the rows of an unrefused call
 
@@ -141,7 +149,7 @@ module _ (job : List ℕ) (r : Rows) (ok : Accepted job) where
       → speeds ≡ fill (λ y. (start_drive accepted y).speed) (r row.speeds) 0 (node_count (node_table job))
       → inflows ≡ fill (λ y. (start_drive accepted y).inflow) (r row.inflows) 0 (node_count (node_table job))
       → spare ≡ fill (λ s. zero64) (r row.spare) 0 (pipe_count (pipe_table job) * 4)
-      → call_leaves (gathered heads flows highest lowest speeds inflows spare) (Done 0) ≡ called job r (ran (started accepted) completed)
+      → call_leaves (gathered heads flows highest lowest speeds inflows spare) (Ok 0) ≡ called job r (ran (started accepted) completed)
   unfolding called rows_after holds answer_of paper_answer started start_state start_point
   begun count long {heads} {flows} {highest} {lowest} {speeds} {inflows} {spare} eh eq eu el ev ei es =
       let st = start_state accepted in
@@ -160,11 +168,19 @@ module _ (job : List ℕ) (r : Rows) (ok : Accepted job) where
       λ i. record { rows = λ x. e x i; answer = record { number = 0; steps = 0; section = 0 } }
 
   -- the run-on: the rows as the run left them, and the spare cleared
-  module _ (a : Rows) (rest : SameRest accepted r a) (long : Enough accepted a) (x : Result) (ended : Ended) (is : result_of ended (state_in accepted a) ≡ x) where
-    pub run_left : (answer : Answer) {spare : List Float} → paper_answer answer ≡ answer_of (result_of ended (state_in accepted a))
+  module _ (a : Rows) (rest : SameRest accepted r a) (long : Enough accepted a) (x : Result) (ended : Std.Result ℕ Stopped) (is : result_of ended (state_in accepted a) ≡ x) where
+    rows_left : rows_after accepted r (result_of ended (state_in accepted a)) ≡ rows_of accepted (state_in accepted a) r
+    unfolding rows_after result_of
+    rows_left = go ended
+      where
+        go : (e : Std.Result ℕ Stopped) → rows_after accepted r (result_of e (state_in accepted a)) ≡ rows_of accepted (state_in accepted a) r
+        go (Ok n) = refl
+        go (Err e) = refl
+
+    pub run_left : (answer : Std.Result ℕ Halt) {spare : List Float} → paper_answer answer ≡ answer_of (result_of ended (state_in accepted a))
         → spare ≡ fill (λ s. zero64) (a row.spare) 0 (pipe_count (pipe_table job) * 4)
         → call_leaves (gathered (a row.heads) (a row.flows) (a row.highest) (a row.lowest) (a row.speeds) (a row.inflows) spare) answer ≡ called job r x
-    unfolding called rows_after result_of holds
+    unfolding called holds
     run_left answer {spare} e es =
         let st = state_in accepted a in
         let kept : (y : Row) → carried y ≡ true → a y ≡ rows_of accepted st r y =
@@ -172,4 +188,4 @@ module _ (job : List ℕ) (r : Rows) (ok : Accepted job) where
         let rows : (y : Row) → gathered (a row.heads) (a row.flows) (a row.highest) (a row.lowest) (a row.speeds) (a row.inflows) spare y ≡ rows_of accepted st r y =
         each _ (kept row.heads refl) (kept row.flows refl) (kept row.highest refl) (kept row.lowest refl) (kept row.speeds refl) (kept row.inflows refl)
         (spare_left st _ (long row.spare) (rest row.spare) es) in
-        rw (← is) (λ i. record { rows = λ y. rows y i; answer = e i })
+        rw (← is, rows_left) (λ i. record { rows = λ y. rows y i; answer = e i })

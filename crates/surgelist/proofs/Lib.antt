@@ -1,2 +1,3 @@
+pub mod ClosingLaws
 pub mod ListingLaws
 pub mod Figures

@@ -5,12 +5,13 @@ ghost use Rattle.job.specs.Format.{job_of, listing_steps};
 ghost use Rattle.job.specs.Questions.{Accepted};
 ghost use Rattle.recurrence.specs.Slices.{lent, after};
 ghost use Rattle.surge.specs.Answers.{paper_answer};
-ghost use Rattle.listing_text.specs.Listing.{AtFront};
+ghost use Rattle.listing_text.specs.Listing.{closing_text, AtFront};
 ghost use Rattle.surgelist.specs.ListingOf.{listing_of};
+ghost use Rattle.closing_line.specs.Closing.{closing_of};
 ghost use Rattle.surgelist.specs.LentRows.{Long, text_of};
 
-use reader::Read;
-use surge::Answer;
+use closing_line::Closing;
+use surge::Halt;
 
 // The start and the steps of an accepted job. The listing is what they leave in the rows and answer.
 fn run(
@@ -23,7 +24,7 @@ fn run(
     speeds: &mut [f64],
     inflows: &mut [f64],
     spare: &mut [f64],
-) -> Answer
+) -> Result<u64, Halt>
     requires accepted { (Accepted job.now) × (steps ≡ listing_steps job.now) }
     requires long { Long (lent heads flows highest lowest speeds inflows spare) }
     ensures { text_of (sections (job_of job.now))
@@ -31,10 +32,32 @@ fn run(
         ≡ listing_of job.now }
 {
     let count = steps as u64;
-    surge::start(job, heads, flows, highest, lowest, speeds, inflows, spare);
+    // No `?`: that an accepted job's start is not refused is no fact of the code's types; the run-on asks again.
+    let _ = surge::start(job, heads, flows, highest, lowest, speeds, inflows, spare);
     surge::run_on(
         job, 0, count, heads, flows, highest, lowest, speeds, inflows, spare,
     )
+}
+
+// The closing line of an answer.
+#[tactic(auto, unfolding(surge::specs::Answers::paper_answer), using(crate::proofs::ClosingLaws::refused_line))]
+fn closing(answer: Result<u64, Halt>) -> Closing
+    ensures { let a = paper_answer answer in closing_of result ≡ closing_text a.number a.steps a.section }
+{
+    match answer {
+        Ok(steps) => Closing::Done {
+            steps: steps as usize,
+        },
+        Err(Halt::Refused(question)) => Closing::Refused(question.number()),
+        Err(Halt::NotFinite { steps, section }) => {
+            let steps = steps as usize;
+            Closing::NotFinite { steps, section }
+        }
+        Err(Halt::Parted { steps, section }) => {
+            let steps = steps as usize;
+            Closing::Parted { steps, section }
+        }
+    }
 }
 
 // Writes the listing of a job at the front of `out` and answers how many bytes it takes. The rows
@@ -53,26 +76,17 @@ pub fn write_listing_of(
     requires { (Long (lent heads flows highest lowest speeds inflows spare)) × (513 * 72 ≤ length out.old) }
     ensures { AtFront (listing_of job.now) out.old result out.new }
 {
-    let read = reader::read(job);
-    match read {
-        Read::Refused(q) => listing::write_listing(0, q, 0, 0, heads, flows, highest, lowest, out),
-        Read::Accepted { sections, steps } => {
+    match reader::read(job) {
+        Err(question) => {
+            let closing = closing(Err(Halt::Refused(question)));
+            listing::write_listing(0, closing, heads, flows, highest, lowest, out)
+        }
+        Ok(held) => {
             let answer = run(
-                job, steps, heads, flows, highest, lowest, speeds, inflows, spare,
+                job, held.steps, heads, flows, highest, lowest, speeds, inflows, spare,
             );
-            let end = surge::numbers_of(answer);
-            let done = end.steps as usize;
-            listing::write_listing(
-                sections,
-                end.number,
-                done,
-                end.section,
-                heads,
-                flows,
-                highest,
-                lowest,
-                out,
-            )
+            let closing = closing(answer);
+            listing::write_listing(held.sections, closing, heads, flows, highest, lowest, out)
         }
     }
 }

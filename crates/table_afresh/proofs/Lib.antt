@@ -1,1 +1,2 @@
 mod Figures
+pub mod TableLaws

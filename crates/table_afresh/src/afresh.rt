@@ -3,10 +3,12 @@ ghost use Rattle.std.specs.Prelude.{[], ◌+◌, ◌*◌, ◌^◌, ◌≤◌, �
 ghost use Rattle.whole_root.specs.WholeRoot.{IsWholeRoot};
 ghost use Rattle.listing_text.specs.Text.{decimal, printed};
 ghost use Rattle.listing_text.specs.Listing.{AtFront};
-ghost use Rattle.listing_text.specs.InnerContracts.{Written};
+ghost use Rattle.listing_text.specs.Stored.{Stored};
 ghost use Rattle.table_afresh.specs.TableText.{table_text};
 
-// The root of n, counted up from a number that is not above it.
+use listing_text::Cursor;
+
+// The root of n, counted up from a number that is not above it. A `while`, since a test ends it and no range.
 fn root_from(t: u64, n: u64) -> u64
     requires { (t * t ≤ n) × (n < 2 ^ 24) }
     ensures { IsWholeRoot n result }
@@ -19,13 +21,14 @@ fn root_from(t: u64, n: u64) -> u64
 }
 
 // A number on a line by itself.
-fn put_alone(n: usize, at: usize, out: &mut [u8]) -> usize
-    requires { (n < 10000) × (at + 5 ≤ length out.old) }
-    ensures written { Written out.old at (printed (decimal n) []) out.new result }
-    ensures upper_bound { result ≤ at + 5 }
+#[tactic(auto, using(crate::proofs::TableLaws::four_at_most))]
+fn put_alone(n: usize, out: &mut Cursor<'_>)
+    requires { (n < 10000) × (out.old.at + 5 ≤ length out.old.out.now) }
+    ensures stored { Stored out.old (printed (decimal n) []) out.new }
+    ensures upper_bound { out.new.at ≤ out.old.at + 5 }
 {
-    let next = listing_text::put_decimal(n, at, out);
-    listing_text::put_newline(next, out)
+    out.decimal(n);
+    out.newline();
 }
 
 // Writes the table's lines at the front of `out` and answers how many bytes they take. Each entry is counted up
@@ -34,13 +37,11 @@ pub fn write_table(out: &mut [u8]) -> usize
     requires { 768 * 5 ≤ length out.old }
     ensures { AtFront table_text out.old result out.new }
 {
-    let mut at = 0;
+    let mut text = Cursor::new(out);
     let mut root: u64 = 0;
-    let mut k: usize = 0;
-    while k < 768 {
-        root = root_from(root, 16384 * (256 + k as u64));
-        at = put_alone(root as usize, at, out);
-        k += 1;
+    for k in 0..768 {
+        root = root_from(root, 16384 * (256 + k));
+        put_alone(root as usize, &mut text);
     }
-    at
+    text.count()
 }

@@ -2,9 +2,9 @@
 -- in the rows are those of the state up to the section count, pairs up to the node count, values in their row those of the job's nodes, and a step reads
 -- nothing else. Assumes nothing.
 use mathlib.Core.Path.{◌≡◌, refl, sym, ap, ◌∙◌}
-use mathlib.Core.Bool.{true, false}
 use mathlib.Core.List.{List}
 use mathlib.Core.Option.{some}
+use Rattle.std.specs.Prelude.{Result, Ok, Err, ⊤}
 use Prim.Native.Nat.{ℕ, ◌+◌, ◌*◌, ◌≤◌, ◌<◌}
 use native.Mathlib.Nat.{zero-add}
 use native.Mathlib.Omega.{arith}
@@ -33,14 +33,14 @@ use Rattle.recurrence.proofs.RowLaws.{Enough, state_at}
 use Rattle.recurrence.proofs.RunLaws.{value_rows}
 use Rattle.recurrence.proofs.GoesOn.{step_faultless}
 use Rattle.section.specs.SectionRows.{entry, SteppedRows}
-use Rattle.section.specs.declared.findings.Scan.{Scan}
+use Rattle.section.specs.declared.Fault.{Fault}
 use Rattle.section.specs.Faults.{fault_with, first_fault, found_fault}
 use Rattle.section.proofs.RecurrenceTies.{scan_is}
 use Rattle.pipe_layout.proofs.Acceptance.{within, floor_read, four_a_pipe}
 use Rattle.node_sums.specs.FromRows.{along_rows, Lent, OverNodes, value_in, end_nodes, inflow_at, new_section}
 use Rattle.node_values.specs.Pairs.{value_from, pair_of, PairsLeft}
-use Rattle.time_step.specs.StepsInRows.{Ready, stops, StepsInRows}
-use Rattle.time_step.proofs.RunLaws.{ready_enough, sound, step_done, step_stops}
+use Rattle.time_step.specs.StepsInRows.{Ready, StepsInRows}
+use Rattle.time_step.proofs.RunLaws.{ready_enough, step_done, step_stops}
 use Rattle.time_step.proofs.JudgedEnds.{BothPresent, ended, judged_at, fault_at_lem}
 
 -- ---- a row filled from its first entry on: its entries, and what stands past them
@@ -138,86 +138,86 @@ module _ (job : List ℕ) (m : ℕ) (r : Rows) (ready : Ready job r) (values : L
       let count = nodes_length job ready.accepted in
       record { start = omega (arith, count, is.start_present); finish = omega (arith, count, is.finish_present) }
 
-  module _ (found : Scan) (e : found_fault found ≡ first_fault (initial_table job) (sections j) new) where
-    fault_is : found_fault found ≡ scan j next
-    fault_is =
-        e
-        ∙ scan_is j (initial_table job) (floor_read job ready.accepted) new next
-        (λ s h. ap (fault_with (floor_at j s) s) (new_is s) ∙ fault_at_lem j (m + 1) old present s h (floor_at j s))
+  -- the scan of the next state by what the check found
+  fault_is : (found : Result ⊤ Fault) → found_fault found ≡ first_fault (initial_table job) (sections j) new → found_fault found ≡ scan j next
+  fault_is found e =
+      e
+      ∙ scan_is j (initial_table job) (floor_read job ready.accepted) new next
+      (λ s h. ap (fault_with (floor_at j s) s) (new_is s) ∙ fault_at_lem j (m + 1) old present s h (floor_at j s))
 
-    -- the spare rewritten up to the entries in use
-    module _ (spare : List Float) (kept : drop (pipe_count (pipe_table job) * 4) spare ≡ drop (pipe_count (pipe_table job) * 4) (r row.spare)) where
-      spare_rest : drop (in_use j row.spare) spare ≡ drop (in_use j row.spare) (r row.spare)
-      spare_rest = rw (four_a_pipe job ready.accepted) kept
+  -- the spare rewritten up to the entries in use
+  module _ (spare : List Float) (kept : drop (pipe_count (pipe_table job) * 4) spare ≡ drop (pipe_count (pipe_table job) * 4) (r row.spare)) where
+    spare_rest : drop (in_use j row.spare) spare ≡ drop (in_use j row.spare) (r row.spare)
+    spare_rest = rw (four_a_pipe job ready.accepted) kept
 
-      -- the check finds a fault, and nothing but the spare is written
-      pub one_stops :
-          stops found ≡ true
-          → StepsInRows job m 1 r (gathered (r row.heads) (r row.flows) (r row.highest) (r row.lowest) (r row.speeds) (r row.inflows) spare) record { steps = m; found = found }
-      unfolding state_in point_in drive_in
-      one_stops s = record { result_is = step_stops j m old found fault_is s; rest = each _ refl refl refl refl refl refl spare_rest }
+    -- the check finds a fault, and nothing but the spare is written
+    pub one_stops :
+        (f : Fault) → found_fault (Err f) ≡ first_fault (initial_table job) (sections j) new
+        → StepsInRows job m 1 r (gathered (r row.heads) (r row.flows) (r row.highest) (r row.lowest) (r row.speeds) (r row.inflows) spare) (Err record { steps = m; fault = f })
+    unfolding state_in point_in drive_in
+    one_stops f e = record { result_is = step_stops j m old f (fault_is (Err f) e); rest = each _ refl refl refl refl refl refl spare_rest }
 
-      -- it finds none, and the step is committed
-      module _ (clear : stops found ≡ false) where
-        abbrev now : ℕ → HeadFlow
-        now s = new_at (laid j) along (nodes_with j v) (located (laid j) s)
+    -- it finds none, and the step is committed
+    module _ {x : ⊤} (clear : found_fault (Ok x) ≡ first_fault (initial_table job) (sections j) new) where
+      abbrev now : ℕ → HeadFlow
+      now s = new_at (laid j) along (nodes_with j v) (located (laid j) s)
 
-        -- so every pair that is judged is finite, and the ends' nodes are the nodes themselves
-        new_now : (s : ℕ) → s < sections j → new s ≡ now s
-        unfolding step outcome_of found_fault
-        new_now s h =
-            let none_found : scan j next ≡ none = sym fault_is ∙ ap found_fault (sound found clear) in
-            let done : step j (m + 1) old ≡ finished next = rw none_found in
-            new_is s ∙ (judged_at j (m + 1) old present s).same (step_faultless j (m + 1) old next done s h).drive
+      -- so every pair that is judged is finite, and the ends' nodes are the nodes themselves
+      new_now : (s : ℕ) → s < sections j → new s ≡ now s
+      unfolding step outcome_of found_fault
+      new_now s h =
+          let none_found : scan j next ≡ none = sym (fault_is (Ok x) clear) in
+          let done : step j (m + 1) old ≡ finished next = rw none_found in
+          new_is s ∙ (judged_at j (m + 1) old present s).same (step_faultless j (m + 1) old next done s h).drive
 
-        module _ {heads flows highest lowest : List Float}
-            (written : SteppedRows new 0 (sections j) (r row.heads) (r row.flows) (r row.highest) (r row.lowest) heads flows highest lowest)
-            {entering speeds inflows : List Float} (entered : OverNodes job (inflow_at job (value_in values) (r row.heads) (r row.flows)) entering)
-            (pairs : PairsLeft job values entering (r row.speeds) (r row.inflows) speeds inflows) where
-          abbrev after : Rows
-          after = gathered heads flows highest lowest speeds inflows spare
+      module _ {heads flows highest lowest : List Float}
+          (written : SteppedRows new 0 (sections j) (r row.heads) (r row.flows) (r row.highest) (r row.lowest) heads flows highest lowest)
+          {entering speeds inflows : List Float} (entered : OverNodes job (inflow_at job (value_in values) (r row.heads) (r row.flows)) entering)
+          (pairs : PairsLeft job values entering (r row.speeds) (r row.inflows) speeds inflows) where
+        abbrev after : Rows
+        after = gathered heads flows highest lowest speeds inflows spare
 
-          point : (s : ℕ) → s < sections j → point_in after s ≡ new_point (laid j) along (nodes_with j v) old s
-          unfolding point_in new_point updated raised lowered
-          point s h =
-              let was : point_at old s ≡ point_in r s = state_at j r s h in
-              let zero : 0 + s ≡ s = zero-add s in
-              let x : entry heads s ≡ (now s).head = filled_at _ (r row.heads) (sections j) written.0 (long row.heads) s h ∙ rw (new_now s h) in
-              let y : entry flows s ≡ (now s).flow = filled_at _ (r row.flows) (sections j) written.1 (long row.flows) s h ∙ rw (new_now s h) in
-              let u : entry highest s ≡ raised (point_at old s).highest (now s).head = filled_at _ (r row.highest) (sections j) written.2 (long row.highest) s h ∙ rw (zero, new_now s h, was) in
-              let v : entry lowest s ≡ lowered (point_at old s).lowest (now s).head = filled_at _ (r row.lowest) (sections j) written.3 (long row.lowest) s h ∙ rw (zero, new_now s h, was) in
-              λ i. record { head = x i; flow = y i; highest = u i; lowest = v i }
+        point : (s : ℕ) → s < sections j → point_in after s ≡ new_point (laid j) along (nodes_with j v) old s
+        unfolding point_in new_point updated raised lowered
+        point s h =
+            let was : point_at old s ≡ point_in r s = state_at j r s h in
+            let zero : 0 + s ≡ s = zero-add s in
+            let x : entry heads s ≡ (now s).head = filled_at _ (r row.heads) (sections j) written.0 (long row.heads) s h ∙ rw (new_now s h) in
+            let y : entry flows s ≡ (now s).flow = filled_at _ (r row.flows) (sections j) written.1 (long row.flows) s h ∙ rw (new_now s h) in
+            let u : entry highest s ≡ raised (point_at old s).highest (now s).head = filled_at _ (r row.highest) (sections j) written.2 (long row.highest) s h ∙ rw (zero, new_now s h, was) in
+            let v : entry lowest s ≡ lowered (point_at old s).lowest (now s).head = filled_at _ (r row.lowest) (sections j) written.3 (long row.lowest) s h ∙ rw (zero, new_now s h, was) in
+            λ i. record { head = x i; flow = y i; highest = u i; lowest = v i }
 
-          -- the pair stored for a node is its new one
-          pair : (y : ℕ) → y < node_count (node_table job) → pair_of job values entering y ≡ new_drive j (laid j) along v y
-          unfolding new_drive inflow_at nodes_with
-          pair y h =
-              let value = value_read y h in
-              let flow = entered.at y h in
-              rw (flow, value, sums_read y)
+        -- the pair stored for a node is its new one
+        pair : (y : ℕ) → y < node_count (node_table job) → pair_of job values entering y ≡ new_drive j (laid j) along v y
+        unfolding new_drive inflow_at nodes_with
+        pair y h =
+            let value = value_read y h in
+            let flow = entered.at y h in
+            rw (flow, value, sums_read y)
 
-          drive : (y : ℕ) → y < length j.nodes → drive_in after y ≡ new_drive j (laid j) along v y
-          unfolding drive_in
-          drive y h =
+        drive : (y : ℕ) → y < length j.nodes → drive_in after y ≡ new_drive j (laid j) along v y
+        unfolding drive_in
+        drive y h =
+            let count = nodes_length job ready.accepted in
+            let low : y < node_count (node_table job) = omega (arith, count) in
+            let a : entry speeds y ≡ (pair_of job values entering y).speed = filled_at _ (r row.speeds) (node_count (node_table job)) pairs.0 (omega (arith, count, long row.speeds)) y low in
+            let b : entry inflows y ≡ (pair_of job values entering y).inflow = filled_at _ (r row.inflows) (node_count (node_table job)) pairs.1 (omega (arith, count, long row.inflows)) y low in
+            let is : drive_in after y ≡ pair_of job values entering y = λ i. record { speed = a i; inflow = b i } in
+            is ∙ pair y low
+
+        state_taken : state_in j after ≡ next
+        unfolding state_in advanced
+        state_taken =
+            let points = listed_cong (sections j) (point_in after) (new_point (laid j) along (nodes_with j v) old) point in
+            let drives = listed_cong (length j.nodes) (drive_in after) (new_drive j (laid j) along v) drive in
+            λ i. record { points = points i; drives = drives i }
+
+        pub one_done : StepsInRows job m 1 r after (Ok (m + 1))
+        one_done = record {
+          result_is = rw state_taken (step_done j m old (fault_is (Ok x) clear));
+          rest =
               let count = nodes_length job ready.accepted in
-              let low : y < node_count (node_table job) = omega (arith, count) in
-              let a : entry speeds y ≡ (pair_of job values entering y).speed = filled_at _ (r row.speeds) (node_count (node_table job)) pairs.0 (omega (arith, count, long row.speeds)) y low in
-              let b : entry inflows y ≡ (pair_of job values entering y).inflow = filled_at _ (r row.inflows) (node_count (node_table job)) pairs.1 (omega (arith, count, long row.inflows)) y low in
-              let is : drive_in after y ≡ pair_of job values entering y = λ i. record { speed = a i; inflow = b i } in
-              is ∙ pair y low
-
-          state_taken : state_in j after ≡ next
-          unfolding state_in advanced
-          state_taken =
-              let points = listed_cong (sections j) (point_in after) (new_point (laid j) along (nodes_with j v) old) point in
-              let drives = listed_cong (length j.nodes) (drive_in after) (new_drive j (laid j) along v) drive in
-              λ i. record { points = points i; drives = drives i }
-
-          pub one_done : StepsInRows job m 1 r after record { steps = m + 1; found = found }
-          one_done = record {
-            result_is = rw state_taken (step_done j m old found fault_is clear);
-            rest =
-                let count = nodes_length job ready.accepted in
-                each _ (filled_rest _ _ _ written.0) (filled_rest _ _ _ written.1) (filled_rest _ _ _ written.2) (filled_rest _ _ _ written.3)
-                (rw count (filled_rest _ _ _ pairs.0)) (rw count (filled_rest _ _ _ pairs.1)) spare_rest;
-          }
+              each _ (filled_rest _ _ _ written.0) (filled_rest _ _ _ written.1) (filled_rest _ _ _ written.2) (filled_rest _ _ _ written.3)
+              (rw count (filled_rest _ _ _ pairs.0)) (rw count (filled_rest _ _ _ pairs.1)) spare_rest;
+        }

@@ -10,17 +10,17 @@ ghost use Rattle.time_step.specs.StepsInRows.{Ready, StepsInRows};
 mod one_step;
 
 use one_step::one_step;
-use section::Scan;
+use section::Fault;
 
-// How a run ended: the steps done in all, and what stopped it.
-#[derive(Clone, Copy)]
-pub struct Ended {
+// A run that a fault stopped: the steps done in all, and the fault.
+#[derive(Clone, Copy, Debug, PartialEq, Eq, Hash)]
+pub struct Stopped {
     pub steps: u64,
-    pub found: Scan,
+    pub fault: Fault,
 }
 
-// Does `count` steps after `done`, fewer only where one stops the run. The table that starts a root is made
-// once, and T of the nodes is worked out once.
+// Does `count` steps after `done`, fewer only where one stops the run. T of the nodes is worked out once. It answers
+// the steps done in all.
 pub fn run(
     job: &[u8],
     done: u64,
@@ -32,23 +32,19 @@ pub fn run(
     speeds: &mut [f64],
     inflows: &mut [f64],
     spare: &mut [f64],
-) -> Ended
+) -> Result<u64, Stopped>
     requires { (Ready job.now (lent heads flows highest lowest speeds inflows spare))
         × (done + count ≤ 1000000) }
     ensures { StepsInRows job.now done count
         (before heads flows highest lowest speeds inflows spare)
         (after heads flows highest lowest speeds inflows spare) result }
 {
-    let roots = whole_root::table::roots();
     let sums = node_sums::constant_sums(job);
     let mut values = [0.0f64; 32];
     let mut nodes = [0.0f64; 32];
     let mut entering = [0.0f64; 32];
-    let mut i = 0;
-    while i < count {
-        let next = i + 1;
-        let ended = one_step(
-            &roots,
+    for i in 0..count {
+        one_step(
             job,
             done + i,
             sums,
@@ -62,16 +58,7 @@ pub fn run(
             speeds,
             inflows,
             spare,
-        );
-        let found = ended.found;
-        if one_step::stops(found) {
-            return ended;
-        }
-        i = next;
+        )?;
     }
-    let steps = done + i;
-    Ended {
-        steps,
-        found: Scan::Sound,
-    }
+    Ok(done + count)
 }

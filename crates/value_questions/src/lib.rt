@@ -1,16 +1,18 @@
 // Questions 13 to 15: the tables of f64 numbers.
 #![tactic(auto)]
 
-ghost use Rattle.std.specs.Prelude.{◌≡◌, true, cond, ◌+◌, ◌*◌, ◌≤◌, length, eqb};
+ghost use Rattle.std.specs.Prelude.{◌≡◌, true, ◌+◌, ◌*◌, ◌<◌, ◌≤◌, length, eqb};
 ghost use Rattle.loops.specs.Loops.{all_below};
-ghost use Rattle.job.specs.Format.{entry_in};
+ghost use Rattle.job.specs.Format.{node_count, kind_number, entry_in};
 ghost use Rattle.job.specs.Questions.{friction_fits, friction_right, initial_fits, initial_right};
 ghost use Rattle.job.specs.Questions.{counts_fit, entry_fits, schedules_right};
 ghost use Rattle.job.specs.Questions.{pair_questions, node_questions, value_questions, first_no};
+ghost use Rattle.job.specs.Refusals.{no_of};
 ghost use Rattle.job.specs.QuestionParts.{numbers_finite, each_finite, none_below_zero};
 ghost use Rattle.job.specs.QuestionParts.{sections_finite, none_below_floor, from0_to1};
 
-use job::questions::decide;
+use job::nodes::{NodeKind, UnknownKind, kind};
+use job::questions::{Question, ask};
 use job::schedules::schedule_count;
 
 // How many of n numbers of a table, from number `first` on, are not finite. They are counted, here and below, so
@@ -20,19 +22,10 @@ fn not_finite(bytes: &[u8], first: usize, n: usize) -> u64
     ensures { eqb result 0 ≡ numbers_finite bytes.now first n }
 {
     let mut bad: u64 = 0;
-    let mut k = 0;
-    while k < n {
-        bad = bad + fields::not_finite_at(bytes, (first + k) * 8);
-        k += 1;
+    for k in 0..n {
+        bad += fields::not_finite_at(bytes, (first + k) * 8);
     }
     bad
-}
-
-// 0 where a test holds, else 1, without a branch.
-fn one_unless(holds: bool) -> u64
-    ensures { (result ≤ 1) × (result ≡ cond holds 0 1) }
-{
-    if holds { 0 } else { 1 }
 }
 
 // How many R are below zero, where each is finite.
@@ -42,11 +35,9 @@ fn below_zero(friction: &[u8]) -> u64
 {
     let n = friction.len() / 8;
     let mut low: u64 = 0;
-    let mut r = 0;
-    while r < n {
+    for r in 0..n {
         let fits = !(fields::f64_at(friction, r * 8) < 0.0);
-        low = low + one_unless(fits);
-        r += 1;
+        low += u64::from(!fits);
     }
     low
 }
@@ -77,12 +68,10 @@ fn below_floor(initial: &[u8]) -> u64
 {
     let n = initial.len() / 24;
     let mut low: u64 = 0;
-    let mut s = 0;
-    while s < n {
+    for s in 0..n {
         let at = s * 24;
         let fits = !(fields::f64_at(initial, at) < fields::f64_at(initial, at + 16));
-        low = low + one_unless(fits);
-        s += 1;
+        low += u64::from(!fits);
     }
     low
 }
@@ -112,28 +101,29 @@ fn out_of_range(schedules: &[u8], place: usize, count: usize) -> u64
     ensures { eqb result 0 ≡ all_below (λ i. from0_to1 (entry_in schedules.now (place + i))) count }
 {
     let mut out: u64 = 0;
-    let mut i = 0;
-    while i < count {
+    for i in 0..count {
         let v = fields::f64_at(schedules, (place + i) * 8);
         let fits = !(v < 0.0) & !(1.0 < v);
-        out = out + one_unless(fits);
-        i += 1;
+        out += u64::from(!fits);
     }
     out
 }
 
-// 15, of the `count` entries from `place` on, of a node of this kind: is each finite and in the kind's range?
-fn schedule_fits(schedules: &[u8], kind: usize, place: usize, count: usize) -> bool
-    requires { (place + count) * 8 ≤ length schedules.now }
-    ensures { result ≡ all_below (λ i. entry_fits kind (entry_in schedules.now (place + i))) count }
+// 15, of the `count` entries from `place` on, of a node: is each finite and in the range of the node's kind?
+fn schedule_fits(nodes: &[u8], schedules: &[u8], node: usize, place: usize, count: usize) -> bool
+    requires { (node < node_count nodes.now) × ((place + count) * 8 ≤ length schedules.now) }
+    ensures { result ≡ all_below
+        (λ i. entry_fits (kind_number nodes.now node) (entry_in schedules.now (place + i))) count }
 {
     if not_finite(schedules, place, count) != 0 {
         return false;
     }
-    if kind < 2 {
-        return true;
+    match kind(nodes, node) {
+        Ok(NodeKind::Junction | NodeKind::Reservoir) => true,
+        Ok(NodeKind::Valve | NodeKind::Pump) | Err(UnknownKind) => {
+            out_of_range(schedules, place, count) == 0
+        }
     }
-    out_of_range(schedules, place, count) == 0
 }
 
 // 15. The place of a node's schedule, the sum of the counts before it, is carried along. Entries are read only where
@@ -144,26 +134,25 @@ fn schedules_right(nodes: &[u8], counts: &[u8], schedules: &[u8]) -> bool
 {
     let n = nodes.len() / 26;
     let mut place = 0;
-    let mut node = 0;
-    while node < n {
+    for node in 0..n {
         let count = schedule_count(nodes, counts, node);
         let next = place + count;
         if schedules.len() < next * 8 {
             return false;
         }
-        if !schedule_fits(schedules, job::nodes::kind(nodes, node), place, count) {
+        if !schedule_fits(nodes, schedules, node, place, count) {
             return false;
         }
         place = next;
-        node += 1;
     }
     schedules.len() == place * 8
 }
 
-// The first of questions 13 to 15 with a no, or 0. Question 50 has let the counts pass.
-pub fn first_no(job: &[u8]) -> usize
+// Questions 13 to 15. Question 50 has let the counts pass.
+#[tactic(auto, unfolding(job::specs::Questions::value_questions, job::specs::Questions::first_no), using(job::proofs::TableBounds::pairs_right, job::proofs::TableBounds::table_short, job::proofs::Accepted::counts_asked))]
+pub fn ask_all(job: &[u8]) -> Result<(), Question>
     requires { (first_no pair_questions job.now ≡ 0) × (first_no node_questions job.now ≡ 0) }
-    ensures { result ≡ first_no value_questions job.now }
+    ensures { no_of result ≡ first_no value_questions job.now }
 {
     let pipes = job::tables::pipes(job);
     let nodes = job::tables::nodes(job);
@@ -171,11 +160,10 @@ pub fn first_no(job: &[u8]) -> usize
     let initial = job::tables::initial(job);
     let schedules = job::tables::schedules(job);
     let counts = job::tables::counts(job);
-    if !friction_right(pipes, friction) {
-        return 13;
-    }
-    if !initial_right(pipes, initial) {
-        return 14;
-    }
-    decide(schedules_right(nodes, counts, schedules), 15, 0)
+    ask(friction_right(pipes, friction), Question::Friction)?;
+    ask(initial_right(pipes, initial), Question::InitialState)?;
+    ask(
+        schedules_right(nodes, counts, schedules),
+        Question::Schedules,
+    )
 }

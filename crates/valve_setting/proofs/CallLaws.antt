@@ -1,4 +1,4 @@
--- What the call leaves and answers, question by question: the first no decides, and the rows are written only where a coefficient is given. Assumes nothing.
+-- What the call leaves and answers: the rows are written only where a coefficient is given; and what the yes to 51 and to 52 tells. Assumes nothing.
 use mathlib.Core.Path.{◌≡◌, ap, ◌∙◌}
 use mathlib.Core.Bool.{Bool, true, false, ◌&&◌}
 use mathlib.Core.List.{List, ◌++◌}
@@ -9,17 +9,16 @@ use lib.Ieee.{Float, lt}
 use lib.Ieee.Scale.{finite}
 use Rattle.fields.specs.Real.{◌⊟◌, zero64}
 use Rattle.loops.specs.Loops.{all_below}
-use borrow.Author.Tests.{eq-eqb, ne_eqb, leb-true}
+use borrow.Author.Tests.{leb-true}
 use Rattle.loops.specs.Fill.{fill}
 use Rattle.loops.proofs.Fill.{filled_whole}
 use Rattle.loops.proofs.Tests.{both}
 use Rattle.loops.proofs.Listed.{listed_same}
 use Rattle.job.specs.Job.{Job, sections, floor_at}
-use Rattle.job.specs.Format.{job_of}
-use Rattle.job.specs.Questions.{refusal, Accepted}
+use Rattle.reader.proofs.AnswerLaws.{refused_is, accepted_is}
 use Rattle.chain.specs.Chain.{is_chain}
-use Rattle.setting.specs.Setting.{head_at, last_head, outlet_head, coefficient_for, head_fits, is_given, refused, none}
-use Rattle.setting.specs.Setting.{coefficient, Answer, Called, written, kept, set_or_none, is_chain_with, rows_hold, set_valve}
+use Rattle.setting.specs.Setting.{head_at, last_head, outlet_head, coefficient_for, head_fits, is_given, none}
+use Rattle.setting.specs.Setting.{coefficient, Answer, written, kept, set_or_none, is_chain_with, rows_hold}
 use Rattle.setting.proofs.HeadList.{heads_listed}
 
 -- ---- the verdict
@@ -58,34 +57,7 @@ module _ (j : Job) (L Q : Float) (heads flows : List Float) where
 
 -- ---- the questions
 
-module _ (bytes : List ℕ) (L Q : Float) (heads flows : List Float) where
-  abbrev no : ℕ → Called
-  no q = record { heads = heads; flows = flows; answer = refused q }
-
-  pub read_refused : {q : ℕ} → (Accepted bytes → ⊥) → q ≡ refusal bytes → no q ≡ set_valve bytes L Q heads flows
-  unfolding set_valve kept
-  read_refused n e = rw (ne_eqb (refusal bytes) 0 n, e)
-
-  module _ (ok : Accepted bytes) where
-    pub no_chain : is_chain_with (job_of bytes) L Q ≡ false → no 51 ≡ set_valve bytes L Q heads flows
-    unfolding set_valve kept
-    no_chain c = rw (eq-eqb (refusal bytes) 0 ok, c)
-
-    module _ (c : is_chain_with (job_of bytes) L Q ≡ true) where
-      pub too_short : rows_hold (job_of bytes) heads flows ≡ false → no 52 ≡ set_valve bytes L Q heads flows
-      unfolding set_valve kept
-      too_short r = rw (eq-eqb (refusal bytes) 0 ok, c, r)
-
-      pub all_asked : rows_hold (job_of bytes) heads flows ≡ true → set_or_none (job_of bytes) L Q heads flows ≡ set_valve bytes L Q heads flows
-      unfolding set_valve kept
-      all_asked r = rw (eq-eqb (refusal bytes) 0 ok, c, r)
-
--- question 52, as the code compares the rows' lengths
-pub rows_asked :
-    (j : Job) (heads flows : List Float) {n : ℕ} {r : Bool} → n ≡ sections j → r ≡ leb n (length heads) && leb n (length flows) → r ≡ rows_hold j heads flows
-unfolding rows_hold
-rows_asked j heads flows e d = d ∙ rw e
-
+-- a yes to question 52
 pub rows_long : (j : Job) (heads flows : List Float) → rows_hold j heads flows ≡ true → (sections j ≤ length heads) × (sections j ≤ length flows)
 unfolding rows_hold
 rows_long j heads flows h =
@@ -96,3 +68,6 @@ rows_long j heads flows h =
 pub chain_first : (j : Job) (L Q : Float) → is_chain_with j L Q ≡ true → is_chain j ≡ true
 unfolding is_chain_with
 chain_first j L Q h = (both (is_chain j) (finite L) (both (is_chain j && finite L) (finite Q) h).0).0
+
+-- what the questions tell, for a tactic
+pub ruleset asked = (refused_is, accepted_is, rows_long, chain_first)

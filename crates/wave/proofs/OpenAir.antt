@@ -3,6 +3,7 @@
 use mathlib.Core.Path.{◌≡◌, refl, sym, ap, ◌∙◌}
 use mathlib.Core.Bool.{Bool, true, false, not, ◌||◌, cond}
 use mathlib.Core.List.{List, [], ◌∷◌}
+use Rattle.std.specs.Prelude.{Some, None}
 use lib.Dec.{T}
 use lib.Ieee.{Float, binary64, fits, lt, eq, of_bits}
 use lib.Ieee.Fits.{add-fits}
@@ -14,7 +15,6 @@ use Rattle.fields.proofs.Signs.{minus, mul_clear, div_clear, add_clear, above_ze
 use Rattle.root.specs.Root.{root_of}
 use Rattle.root.proofs.Relation.{root_clear}
 use Rattle.wave.specs.declared.Sums.{Sums}
-use Rattle.wave.specs.declared.Discharge.TheVariants.{Flow, NotFinite}
 use Rattle.wave.specs.Wave.{sum_from, sums_of}
 use Rattle.wave.specs.Nodes.{rooted, valve_w, valve_y, orifice_argument, orifice_rate, orifice_flow, valve_flow, head_less, node_head}
 use Rattle.wave.specs.OpenAir.{NotAbove, EachAbove, OpenAir}
@@ -30,7 +30,7 @@ less_zero : (x : Float) → T (fits binary64 x) → x ⊟ zero64 ≡ x
 unfolding of_bits
 less_zero x t = sub_plus_zero binary64 x t
 
-nothing : (v a b : Float) (s : Sums) → NotAbove b s → valve_flow v a b s ≡ Flow zero64
+nothing : (v a b : Float) (s : Sums) → NotAbove b s → valve_flow v a b s ≡ Some zero64
 unfolding valve_flow orifice_flow
 nothing v a b s h = rw h
 
@@ -53,15 +53,15 @@ rate_clear w y W Y =
     div_clear binary64 ((y ⊞ y) ⊠ w) (w ⊞ r)
     (mul_clear binary64 (y ⊞ y) w (add_clear binary64 y y Y Y ∙ sym W) ∙ sym (add_clear binary64 w r W (root_clear g (add-fits binary64 (w ⊠ w) (four64 ⊠ (w ⊠ y))))))
 
-not_back : (w y q : Float) → minus w ≡ false → orifice_flow w y ≡ Flow q → lt q zero64 ≡ false
+not_back : (w y q : Float) → minus w ≡ false → orifice_flow w y ≡ Some q → lt q zero64 ≡ false
 unfolding orifice_flow rooted of_bits
 not_back w y q W = go (lt zero64 y) refl (eq w zero64) (finite (orifice_argument w y))
   where
-    flows : (x : Float) → minus x ≡ false → Flow x ≡ Flow q → lt q zero64 ≡ false
+    flows : (x : Float) → minus x ≡ false → Some x ≡ Some q → lt q zero64 ≡ false
     flows x X e = let same : x ≡ q = cc in not_below_zero_lem q (ap minus (sym same) ∙ X)
 
     go : (above : Bool) → lt zero64 y ≡ above → (shut fine : Bool)
-        → cond (not above || shut) (Flow zero64) (cond fine (Flow (orifice_rate w y)) NotFinite) ≡ Flow q → lt q zero64 ≡ false
+        → cond (not above || shut) (Some zero64) (cond fine (Some (orifice_rate w y)) None) ≡ Some q → lt q zero64 ≡ false
     go false p shut fine e = flows zero64 refl e
     go true p true fine e = flows zero64 refl e
     go true p false true e = flows (orifice_rate w y) (rate_clear w y W (above_zero y p)) e

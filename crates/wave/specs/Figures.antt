@@ -1,12 +1,10 @@
 -- Figures of the wave equations and the nodes, as statements about the definitions; they are proved in proofs/Figures.antt. Definitions only.
-use Rattle.std.specs.Prelude.{◌≡◌, true, false, [], ◌∷◌, ℕ, ◌^◌, eqb, pos, Float}
+use Rattle.std.specs.Prelude.{◌≡◌, true, false, [], ◌∷◌, ℕ, ◌^◌, eqb, pos, Option, Some, None, Float}
 use Rattle.std.specs.Float.{nan, fin, binary64}
 use Rattle.std.specs.Float.Ieee.{of_bits, to_bits, of_int, neg}
 use Rattle.fields.specs.Real.{◌⊘◌, infinity64}
 use Rattle.wave.specs.declared.Sums.{Sums}
 use Rattle.wave.specs.declared.Node.TheVariants.{Junction, Reservoir, Valve, Pump}
-use Rattle.wave.specs.declared.Discharge.{Discharge}
-use Rattle.wave.specs.declared.Discharge.TheVariants.{Flow, NotFinite}
 use Rattle.wave.specs.Wave.{magnitude, from_above, from_below, inner, finish_k, start_k, finish_end, start_end, sums_of}
 use Rattle.wave.specs.Adding.{no_sums, with_k, with_s}
 use Rattle.wave.specs.Nodes.{valve_w, orifice_argument, orifice_flow, valve_flow, pump_h, lift_flow, pump_flow, head_less, head_more, node_head}
@@ -36,9 +34,9 @@ infix 50 ◌is◌ ◌gives◌
 abbrev pub ◌is◌ : Float → Float → Type 0
 x is y = eqb (to_bits binary64 x) (to_bits binary64 y) ≡ true
 
-abbrev pub ◌gives◌ : Discharge → Float → Type 0
-Flow q gives y = q is y
-NotFinite gives y = ⊥
+abbrev pub ◌gives◌ : Option Float → Float → Type 0
+Some q gives y = q is y
+None gives y = ⊥
 
 -- Document 01, 'Bench figures', P7 as document 02, 1/12, has it. P4 and P5: S, R, H, Q. P6 and P7: the valve of job Q, v, a, b. P8: the pump, v, a, b, c.
 -- P9: K and S of two ends.
@@ -116,7 +114,7 @@ pub record NodeFigures : Type 0 where
   pub orifice_w_zero : orifice_flow (num 0) (num 4) gives num 0
   pub orifice_w_minus_zero : orifice_flow (neg (num 0)) (num 4) gives num 0
   pub orifice_w_zero_y_infinite : orifice_flow (num 0) infinity64 gives num 0
-  pub valve_root_infinite_q : valve_flow (num 1) (num (10 ^ 200)) (num 6) (sums (num 14) (num 1)) ≡ NotFinite
+  pub valve_root_infinite_q : valve_flow (num 1) (num (10 ^ 200)) (num 6) (sums (num 14) (num 1)) ≡ None
   pub valve_root_infinite_h : node_head (Valve (num 1) (num (10 ^ 200)) (num 6)) (sums (num 14) (num 1)) is infinity64
   pub valve_shut_y_infinite : node_head (Valve (num 0) (num 2) (neg (power 100))) (sums (power 1000) (power 1000)) is num 1
   pub valve_shut_minus_zero : node_head (Valve (num 0) (num 2) (neg (num 6))) (sums (neg (num 0)) (num 1)) is neg (num 0)
@@ -133,7 +131,7 @@ pub record NodeFigures : Type 0 where
   pub valve_above_by_y : valve_flow (num 1) (num 2) (tenths 24) (sums (bits 0x3fce_b851_eb85_1eb9) (tenths 1)) gives halved 1 55
   pub valve_level_by_y_q : valve_flow (num 1) (power 400) (num 6) (sums (bits 0x3fe3_3333_3333_3334) (tenths 1)) gives num 0
   pub valve_level_by_y_h : node_head (Valve (num 1) (power 400) (num 6)) (sums (bits 0x3fe3_3333_3333_3334) (tenths 1)) is bits 0x4018_0000_0000_0001
-  pub valve_h_rounded : head_less (Flow (tenths 1)) (sums (tenths 3) (tenths 4)) is bits 0x3fdf_ffff_ffff_ffff
+  pub valve_h_rounded : head_less (Some (tenths 1)) (sums (tenths 3) (tenths 4)) is bits 0x3fdf_ffff_ffff_ffff
   pub pump_q : pump_flow (halved 1 1) (num 40) (halved 3 2) (num 2) (sums (num 16) (num 2)) gives num 2
   pub pump_head_level : node_head (Pump (halved 1 1) (num 40) (halved 3 2) (num 2)) (sums (num 16) (num 2)) is num 9
   pub pump_h_rounded : pump_h (tenths 1) (tenths 23) (tenths 1) is bits 0x3fbf_7ced_9168_72b1
@@ -142,7 +140,7 @@ pub record NodeFigures : Type 0 where
   pub lift_to_nearest : lift_flow (tenths 15) (halved 1 1) (num 3) gives bits 0x3ff7_1075_a3cd_cf18
   pub lift_below_middle : lift_flow (num 1) (num 1) (bits 0x400e_0000_0000_0002) gives bits 0x3ff8_0000_0000_0002
   pub lift_near_overflow : lift_flow (power 1023) (num 1) (halved 1 11) gives bits 0x1fa0_0000_0000_0000
-  pub lift_root_infinite : lift_flow (power 1023) (num 2) (num 1) ≡ NotFinite
+  pub lift_root_infinite : lift_flow (power 1023) (num 2) (num 1) ≡ None
   pub lift_y_zero : lift_flow (power 1023) (num 2) (num 0) gives num 0
   pub lift_y_minus_zero : lift_flow (num 1) (num 2) (neg (num 0)) gives num 0
   pub lift_y_below_zero : lift_flow (power 1023) (num 2) (neg (num 1)) gives num 0
@@ -150,4 +148,4 @@ pub record NodeFigures : Type 0 where
   pub pump_idle_minus_zero : node_head (Pump (num 0) (num 10) (num 1) (num 0)) (sums (neg (num 0)) (num 1)) is num 0
   pub pump_idle_t_infinite : node_head (Pump (num 0) (num 10) (num 1) (num 0)) (sums (num 3) infinity64) is infinity64
   pub pump_idle_b_infinite : node_head (Pump (num 0) (num 10) (num 1) (num 0)) (sums infinity64 (num 1)) is infinity64
-  pub pump_head_rounded : head_more (Flow (tenths 1)) (sums (tenths 2) (tenths 3)) is bits 0x3ff0_0000_0000_0001
+  pub pump_head_rounded : head_more (Some (tenths 1)) (sums (tenths 2) (tenths 3)) is bits 0x3ff0_0000_0000_0001

@@ -1,9 +1,9 @@
-// The wave equations along a reach, and the nodes. Each function equals its definition in specs/ bit for bit.
+// The wave equations along a reach, and the nodes. Each function equals its definition in specs/ bit for bit:
+// most proofs only open the definitions that the function's attribute names.
 #![tactic(auto)]
 
 ghost use Rattle.std.specs.Prelude.{◌≡◌};
 ghost use Rattle.fields.specs.Real.{infinity64};
-ghost use Rattle.whole_root.specs.Table.{IsTable};
 ghost use Rattle.wave.specs.Wave as wave;
 ghost use Rattle.wave.specs.Nodes as nodes;
 ghost use Rattle.wave.specs.Adding as adding;
@@ -42,17 +42,10 @@ pub enum Node {
     Pump(f64, f64, f64, f64),
 }
 
-// What flows through a valve or a pump (q of document 01), or that the argument of the root that it
-// takes is not finite.
-#[derive(Clone, Copy)]
-pub enum Discharge {
-    Flow(f64),
-    NotFinite,
-}
-
 // ---- the wave equations
 
-// |x|
+// |x|; of -0 it is -0, unlike `abs`.
+#[tactic(auto, unfolding(crate::specs::Wave::magnitude))]
 pub fn magnitude(x: f64) -> f64
     ensures { result ≡ wave.magnitude x }
 {
@@ -60,6 +53,7 @@ pub fn magnitude(x: f64) -> f64
 }
 
 // CP: along the reach from the section above, whose old head and flow are h and q.
+#[tactic(auto, unfolding(crate::specs::Wave::from_above))]
 pub fn from_above(s: f64, r: f64, h: f64, q: f64) -> f64
     ensures { result ≡ wave.from_above s r h q }
 {
@@ -68,6 +62,7 @@ pub fn from_above(s: f64, r: f64, h: f64, q: f64) -> f64
 }
 
 // CM: along the reach from the section below.
+#[tactic(auto, unfolding(crate::specs::Wave::from_below))]
 pub fn from_below(s: f64, r: f64, h: f64, q: f64) -> f64
     ensures { result ≡ wave.from_below s r h q }
 {
@@ -76,6 +71,7 @@ pub fn from_below(s: f64, r: f64, h: f64, q: f64) -> f64
 }
 
 // An inner section.
+#[tactic(auto, unfolding(crate::specs::Wave::inner))]
 pub fn inner(s: f64, cp: f64, cm: f64) -> HeadFlow
     ensures { result ≡ wave.inner s cp cm }
 {
@@ -86,12 +82,14 @@ pub fn inner(s: f64, cp: f64, cm: f64) -> HeadFlow
 }
 
 // K at a pipe's finish and at its start, by the section next to it.
+#[tactic(auto, unfolding(crate::specs::Wave::finish_k))]
 pub fn finish_k(s: f64, r: f64, h: f64, q: f64) -> f64
     ensures { result ≡ wave.finish_k s r h q }
 {
     from_above(s, r, h, q)
 }
 
+#[tactic(auto, unfolding(crate::specs::Wave::start_k))]
 pub fn start_k(s: f64, r: f64, h: f64, q: f64) -> f64
     ensures { result ≡ wave.start_k s r h q }
 {
@@ -99,6 +97,7 @@ pub fn start_k(s: f64, r: f64, h: f64, q: f64) -> f64
 }
 
 // The end of a pipe at its finish and at its start, where the node's head is h.
+#[tactic(auto, unfolding(crate::specs::Wave::finish_end))]
 pub fn finish_end(s: f64, k: f64, h: f64) -> HeadFlow
     ensures { result ≡ wave.finish_end s k h }
 {
@@ -108,6 +107,7 @@ pub fn finish_end(s: f64, k: f64, h: f64) -> HeadFlow
     }
 }
 
+#[tactic(auto, unfolding(crate::specs::Wave::start_end))]
 pub fn start_end(s: f64, k: f64, h: f64) -> HeadFlow
     ensures { result ≡ wave.start_end s k h }
 {
@@ -118,7 +118,8 @@ pub fn start_end(s: f64, k: f64, h: f64) -> HeadFlow
 }
 
 impl Sums {
-    // The sums before any end.
+    // The sums before any end; no derived `Default`, so that the contract says that they are +0.
+    #[tactic(auto, unfolding(crate::specs::Adding::no_sums))]
     pub fn none() -> Self
         ensures { result ≡ adding.no_sums }
     {
@@ -126,121 +127,110 @@ impl Sums {
     }
 
     // The sums with K, and with S, of one more end.
+    #[tactic(auto, unfolding(crate::specs::Adding::with_k))]
     pub fn with_k(self, k: f64) -> Self
         ensures { result ≡ adding.with_k self k }
     {
         Self {
             b: self.b + k,
-            t: self.t,
+            ..self
         }
     }
 
+    #[tactic(auto, unfolding(crate::specs::Adding::with_s))]
     pub fn with_s(self, s: f64) -> Self
         ensures { result ≡ adding.with_s self s }
     {
         Self {
-            b: self.b,
             t: self.t + s,
+            ..self
         }
     }
 }
 
-// ---- the nodes: `roots` is the table that starts a root
+// ---- the nodes: q is what flows through a valve or a pump, and none where the argument of its root is not finite
 
 // q of an opening into open air, by w and y: nothing comes back, and a root that is not taken is not judged.
-fn orifice_flow(roots: &[u16; 768], w: f64, y: f64) -> Discharge
-    requires { IsTable roots.now }
+fn orifice_flow(w: f64, y: f64) -> Option<f64>
     ensures { result ≡ nodes.orifice_flow w y }
 {
-    if !(y > 0.0) | (w == 0.0) {
-        return Discharge::Flow(0.0);
+    if !(y > 0.0) || w == 0.0 {
+        return Some(0.0);
     }
     let g = w * w + 4.0 * (w * y);
     if fields::is_finite(g) {
-        Discharge::Flow(((y + y) * w) / (w + root::root_by(roots, g)))
+        Some(((y + y) * w) / (w + root::root_of(g)))
     } else {
-        Discharge::NotFinite
+        None
     }
 }
 
 // q of a valve.
-fn valve_flow(roots: &[u16; 768], opening: f64, a: f64, b: f64, sums: Sums) -> Discharge
-    requires { IsTable roots.now }
+#[tactic(auto, unfolding(crate::specs::Nodes::valve_flow, crate::specs::Nodes::valve_w, crate::specs::Nodes::valve_y))]
+fn valve_flow(opening: f64, a: f64, b: f64, sums: Sums) -> Option<f64>
     ensures { result ≡ nodes.valve_flow opening a b sums }
 {
     let w = ((opening * a) * (opening * a)) / sums.t;
     let y = sums.b - sums.t * b;
-    orifice_flow(roots, w, y)
+    orifice_flow(w, y)
 }
 
 // q of a pump, by y; t is T.
-fn lift_flow(roots: &[u16; 768], b: f64, t: f64, y: f64) -> Discharge
-    requires { IsTable roots.now }
+fn lift_flow(b: f64, t: f64, y: f64) -> Option<f64>
     ensures { result ≡ nodes.lift_flow b t y }
 {
     if y > 0.0 {
         let g = 1.0 + 4.0 * ((b * t) * y);
         if fields::is_finite(g) {
-            Discharge::Flow((y + y) / (1.0 + root::root_by(roots, g)))
+            Some((y + y) / (1.0 + root::root_of(g)))
         } else {
-            Discharge::NotFinite
+            None
         }
     } else {
-        Discharge::Flow(0.0)
+        Some(0.0)
     }
 }
 
 // q of a pump.
-fn pump_flow(roots: &[u16; 768], speed: f64, a: f64, b: f64, c: f64, sums: Sums) -> Discharge
-    requires { IsTable roots.now }
+#[tactic(auto, unfolding(crate::specs::Nodes::pump_flow, crate::specs::Nodes::pump_h, crate::specs::Nodes::pump_y))]
+fn pump_flow(speed: f64, a: f64, b: f64, c: f64, sums: Sums) -> Option<f64>
     ensures { result ≡ nodes.pump_flow speed a b c sums }
 {
     let h = c + (speed * speed) * a;
     let y = sums.t * h - sums.b;
-    lift_flow(roots, b, sums.t, y)
+    lift_flow(b, sums.t, y)
 }
 
 // Plus infinity.
 pub fn infinity() -> f64
     ensures { result ≡ infinity64 }
 {
-    f64::from_bits(0x7ff0_0000_0000_0000)
+    f64::INFINITY
 }
 
 impl Sums {
     // The head of a node out of which q flows, and of one into which it flows.
-    fn head_less(self, q: Discharge) -> f64
+    #[tactic(auto, unfolding(crate::specs::Nodes::head_less))]
+    fn head_less(self, q: Option<f64>) -> f64
         ensures { result ≡ nodes.head_less q self }
     {
-        let b = self.b;
-        let t = self.t;
-        match q {
-            Discharge::Flow(q) => (b - q) / t,
-            Discharge::NotFinite => infinity(),
-        }
+        q.map_or(infinity(), |q| (self.b - q) / self.t)
     }
 
-    fn head_more(self, q: Discharge) -> f64
+    #[tactic(auto, unfolding(crate::specs::Nodes::head_more))]
+    fn head_more(self, q: Option<f64>) -> f64
         ensures { result ≡ nodes.head_more q self }
     {
-        let b = self.b;
-        let t = self.t;
-        match q {
-            Discharge::Flow(q) => (b + q) / t,
-            Discharge::NotFinite => infinity(),
-        }
+        q.map_or(infinity(), |q| (self.b + q) / self.t)
     }
 
     // The head h, and plus infinity where a sum is not finite.
+    #[tactic(auto, unfolding(crate::specs::Nodes::judged))]
     fn judged(self, h: f64) -> f64
         ensures { result ≡ nodes.judged self h }
     {
-        if fields::is_finite(self.b) {
-            if fields::is_finite(self.t) {
-                h
-            } else {
-                infinity()
-            }
+        if fields::is_finite(self.b) && fields::is_finite(self.t) {
+            h
         } else {
             infinity()
         }
@@ -248,18 +238,16 @@ impl Sums {
 }
 
 // The inflow of a pump whose q this is: plus infinity where it has none, as its head is then.
-fn inflow_of(q: Discharge) -> f64
+#[tactic(auto, unfolding(crate::specs::Nodes::inflow_of))]
+fn inflow_of(q: Option<f64>) -> f64
     ensures { result ≡ nodes.inflow_of q }
 {
-    match q {
-        Discharge::Flow(q) => q,
-        Discharge::NotFinite => infinity(),
-    }
+    q.unwrap_or(infinity())
 }
 
 // The node solver: H of a node, by its kind, judged for every kind; and its inflow.
-pub fn solve_node(roots: &[u16; 768], n: Node, sums: Sums) -> HeadInflow
-    requires { IsTable roots.now }
+#[tactic(auto, unfolding(crate::specs::Nodes::node_head, crate::specs::Nodes::node_inflow))]
+pub fn solve_node(n: Node, sums: Sums) -> HeadInflow
     ensures { (result.head ≡ nodes.node_head n sums) × (result.inflow ≡ nodes.node_inflow n sums) }
 {
     match n {
@@ -272,12 +260,12 @@ pub fn solve_node(roots: &[u16; 768], n: Node, sums: Sums) -> HeadInflow
             HeadInflow { head, inflow: 0.0 }
         }
         Node::Valve(opening, a, b) => {
-            let q = valve_flow(roots, opening, a, b, sums);
+            let q = valve_flow(opening, a, b, sums);
             let head = sums.judged(sums.head_less(q));
             HeadInflow { head, inflow: 0.0 }
         }
         Node::Pump(speed, a, b, c) => {
-            let q = pump_flow(roots, speed, a, b, c, sums);
+            let q = pump_flow(speed, a, b, c, sums);
             let head = sums.judged(sums.head_more(q));
             HeadInflow {
                 head,
@@ -288,6 +276,7 @@ pub fn solve_node(roots: &[u16; 768], n: Node, sums: Sums) -> HeadInflow
 }
 
 // The speed of a pump that has lost its power, by the constants of its rundown, its old speed and its old inflow.
+#[tactic(auto, unfolding(crate::specs::Nodes::rundown))]
 pub fn rundown(g: f64, t0: f64, t1: f64, speed: f64, inflow: f64) -> f64
     ensures { result ≡ nodes.rundown g t0 t1 speed inflow }
 {

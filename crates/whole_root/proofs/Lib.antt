@@ -2,3 +2,4 @@ pub mod WholeLaws
 mod Figures
 pub mod TableRule
 mod Corrected
+mod LaterDigits

@@ -1,9 +1,9 @@
--- The rule of the table: one test, which antt computes over the whole list, and a law that carries it to each entry. A whole number has one root, so
--- that the rule leaves one table. Assumes nothing.
-use mathlib.Core.Path.{◌≡◌, sym, ◌∙◌, subst}
+-- The rule of the table: one test, which antt computes over the 768 numbers as they stand in the code, and a law that carries it to each entry. A whole
+-- number has one root, so that the rule leaves one table. Assumes nothing.
+use mathlib.Core.Path.{◌≡◌, refl, sym, ◌∙◌, subst}
 use mathlib.Core.Bool.{true}
 use mathlib.Core.List.{List, [], ◌∷◌}
-use Prim.Native.Nat.{ℕ, zero, suc, ◌+◌, ◌*◌, ◌<◌}
+use Prim.Native.Nat.{ℕ, zero, suc, ◌+◌, ◌-◌, ◌*◌, ◌≤◌, ◌<◌}
 use native.Mathlib.Nat.{add-zero, add-suc, suc-add, le_of_suc-le-suc, not-suc-le-zero}
 use native.Mathlib.Omega.{arith}
 use borrow.Author.Tests.{leb-true, ltb-true}
@@ -12,6 +12,7 @@ use lib.ListN.{length, get_or}
 use Rattle.loops.proofs.Tests.{both}
 use Rattle.whole_root.specs.WholeRoot.{IsWholeRoot}
 use Rattle.whole_root.specs.Table.{is_entry, are_entries, IsTable, entry_of, OneTable}
+use Rattle.whole_root.specs.declared.table.TheConstants.{TABLE}
 use Rattle.whole_root.proofs.WholeLaws.{whole_root_is, one_root}
 
 is_entry_lem : (i t : ℕ) → is_entry i t ≡ true → IsWholeRoot (16384 * i) t
@@ -29,6 +30,17 @@ entry_at (t ∷ ts) i h (suc k) l =
 
 pub is_table : (ts : List ℕ) → length ts ≡ 768 → are_entries 256 ts ≡ true → IsTable ts
 is_table ts many h = record { many = many; entry = λ (k : ℕ) (l : k < 768). entry_at ts 256 h k (subst (λ (n : ℕ). k < n) (sym many) l) }
+
+-- the table of the code keeps the rule
+pub code_table : IsTable TABLE
+unfolding are_entries
+code_table = is_table TABLE refl refl
+
+-- entry i stands at place i - 256
+pub entry_is : (i : ℕ) → 256 ≤ i → i < 1024 → IsWholeRoot (16384 * i) (get_or TABLE (i - 256) 0)
+entry_is i low high =
+    let place : 256 + (i - 256) ≡ i = omega arith in
+    subst (λ (j : ℕ). IsWholeRoot (16384 * j) (get_or TABLE (i - 256) 0)) place (code_table.entry (i - 256) (omega arith))
 
 -- what keeps the rule of an entry is the entry worked out
 pub the_entry : (k t : ℕ) → k < 768 → IsWholeRoot (16384 * (256 + k)) t → t ≡ entry_of (256 + k)

@@ -3,7 +3,6 @@
 
 ghost use Rattle.std.specs.Prelude.{◌≡◌, cond, ◌+◌, ◌*◌, ◌^◌, ◌≤◌, ◌<◌, leb};
 ghost use Rattle.whole_root.specs.WholeRoot.{IsWholeRoot};
-ghost use Rattle.whole_root.specs.Table.{IsTable};
 ghost use Rattle.whole_root.specs.Digits.{LeavesRest, FirstDigits};
 
 pub mod table;
@@ -20,16 +19,17 @@ fn reaches(r: u64, n: u64) -> u64
     requires { r < 2 ^ 32 }
     ensures { (result ≤ 1) × (result ≡ cond (leb (r * r) n) 1 0) }
 {
-    if r * r <= n { 1 } else { 0 }
+    u64::from(r * r <= n)
 }
 
 // The root of a number of 23 or 24 binary digits. The table has the root of the same number with zeros for its last
-// fourteen digits, which is at most four too small.
-fn first_digits(roots: &[u16; 768], top: u64) -> u64
-    requires { (IsTable roots.now) × (2 ^ 22 ≤ top) × (top < 2 ^ 24) }
+// fourteen digits, which is at most four too small. The four comparisons are written out, since they wait for nothing
+// but the entry; a loop over them took longer.
+fn first_digits(top: u64) -> u64
+    requires { (2 ^ 22 ≤ top) × (top < 2 ^ 24) }
     ensures { IsWholeRoot top result }
 {
-    let t = table::entry(roots, (top / 16384) as usize);
+    let t = table::entry((top / 16384) as usize);
     let one = reaches(t + 1, top);
     let two = reaches(t + 2, top);
     let three = reaches(t + 3, top);
@@ -40,7 +40,7 @@ fn first_digits(roots: &[u16; 768], top: u64) -> u64
 // The digits of a root after the first twelve, one a turn. The root stands in its place, with zeros for the digits to
 // come, which count less than `unit`, and is kept twice over; so is what its square leaves, divided by `unit`. What a
 // digit takes away is chosen before it is taken, so that no branch is compiled and the doubling does not wait for the
-// choice.
+// choice. The loop is a `while`, since what it counts by is halved.
 fn later_digits(first: Whole, low: u64) -> Whole
     requires { FirstDigits first.root first.rest low }
     ensures { LeavesRest
@@ -61,18 +61,19 @@ fn later_digits(first: Whole, low: u64) -> Whole
         twice_rest = twice_rest * 2 - taken;
         unit = place;
     }
-    let root = twice_root / 2;
-    let rest = twice_rest / 2;
-    Whole { root, rest }
+    Whole {
+        root: twice_root / 2,
+        rest: twice_rest / 2,
+    }
 }
 
 // The root of `m * 2^52`, of 53 binary digits.
-pub fn whole_root(roots: &[u16; 768], m: u64) -> Whole
-    requires { (IsTable roots.now) × (2 ^ 52 ≤ m) × (m < 2 ^ 54) }
+pub fn whole_root(m: u64) -> Whole
+    requires { (2 ^ 52 ≤ m) × (m < 2 ^ 54) }
     ensures { LeavesRest (m * 2 ^ 52) result.root result.rest }
 {
     let top = m / 0x4000_0000;
-    let root = first_digits(roots, top);
+    let root = first_digits(top);
     let rest = top - root * root;
     later_digits(Whole { root, rest }, m % 0x4000_0000)
 }

@@ -1,7 +1,6 @@
 // The table that starts a root.
-ghost use Rattle.std.specs.Prelude.{◌≡◌, ◌*◌, ◌≤◌, ◌<◌};
+ghost use Rattle.std.specs.Prelude.{◌*◌, ◌≤◌, ◌<◌};
 ghost use Rattle.whole_root.specs.WholeRoot.{IsWholeRoot};
-ghost use Rattle.whole_root.specs.Table.{IsTable};
 
 // Entry i, from 256 to 1,023, is the greatest t with t * t at most 16,384 * i; `table_afresh` prints the same.
 const ROOTS: [u16; 768] = [
@@ -55,24 +54,13 @@ const ROOTS: [u16; 768] = [
     4063, 4065, 4067, 4069, 4071, 4073, 4075, 4077, 4079, 4081, 4083, 4085, 4087, 4089, 4091, 4093,
 ];
 
-// The table. A constant is copied to wherever it is used, so that who takes many roots makes it once and lends it.
-pub fn roots() -> [u16; 768]
-    ensures { IsTable result }
-{
-    ROOTS
-}
-
-// An entry as wide as the numbers that it is compared with.
-fn wide(t: u16) -> u64
-    ensures { result ≡ t }
-{
-    t as u64
-}
+// The table in memory, once. It is read in place; a constant by itself may be copied to wherever it is used.
+static TABLE: [u16; 768] = ROOTS;
 
 // Entry i.
-pub fn entry(roots: &[u16; 768], i: usize) -> u64
-    requires { (IsTable roots.now) × (256 ≤ i) × (i < 1024) }
+pub fn entry(i: usize) -> u64
+    requires { (256 ≤ i) × (i < 1024) }
     ensures { IsWholeRoot (16384 * i) result }
 {
-    wide(roots[i - 256])
+    u64::from(TABLE[i - 256])
 }

@@ -17,7 +17,7 @@ FILES = {
     "whole_root": "WholeRoot Table",
     "root": "Nearest Fractions Root Answer",
     "wave": "Wave Nodes OpenAir",
-    "job": "Job Format Questions",
+    "job": "Job Format Questions Refusals",
     "chain": "Chain",
     "setting": "Setting Laws",
     "valve_setting": "Answers",
@@ -31,11 +31,10 @@ FILES = {
 }
 # Types of the code, as the definitions name them: in a module of the crate, or in its lib.rt.
 TYPES = {
-    "root": "answer.Root",
-    "wave": "Sums HeadFlow Node Discharge",
-    "reader": "answer.Read",
-    "surge": "answer.Answer",
-    "valve_setting": "answer.Setting",
+    "wave": "Sums HeadFlow Node",
+    "job": "questions.Question",
+    "reader": "Held",
+    "surge": "answer.Halt",
 }
 TOOLCHAIN = ("Prim", "mathlib", "lib", "denote")  # libraries that are assumed with the prover, as std's specs are
 BELIEVED = {(crate, name) for crate, names in FILES.items() for name in names.split()}

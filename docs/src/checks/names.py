@@ -76,6 +76,9 @@ class Antt:
 
     @staticmethod
     def declared(line):
+        rules = re.match(r"\s*(?:pub )?ruleset (\S+) =", line)
+        if rules:
+            return rules[1]
         m = SIGNATURE.match(line.lstrip())
         if not m or m[2] in ("unfolding", "infixl", "infixr", "infix", "syntax"):
             return None
@@ -144,6 +147,10 @@ def unused_declarations(antt, code):
         for module, name, shown in ghost_imports(text):
             if operator(shown) in tokens and module_file(module):
                 used[module_file(module)].add(name)
+        # lemmas and definitions that a tactic(auto, using(..), unfolding(..)) names by their paths
+        for crate, part, path, name in re.findall(r"(\w+)::(specs|proofs)::((?:\w+::)+)(\w+)", text):
+            crate = f.relative_to(CRATES).parts[0] if crate == "crate" else crate
+            used[CRATES / crate / part / (path[:-2].replace("::", "/") + ".antt")].add(name)
         for m in re.finditer(r"ghost use (\S+) as (\w+);", text):
             if module_file(m[1]):
                 used[module_file(m[1])].update(re.findall(m[2] + r"\.(\w+)", text))
@@ -201,7 +208,7 @@ def cited(antt, code):
             continue
         known.update(f.relative_to(TOP).parts)
         known.add(f.stem)
-        if f.suffix in (".rt", ".antt", ".rs", ".sh", ".py", ".h", ".c", ".edit", ".txt", ".toml"):
+        if f.suffix in (".rt", ".antt", ".rs", ".sh", ".py", ".h", ".c", ".edit", ".txt", ".toml") or f == TOP / ".ci/run":
             known.update(re.findall(r"[^\s(){}\[\];,.«»⌜⌝@:&*\"'`]+", f.read_text(errors="replace")))
     known |= {"-".join(k.split("-")[:n]) for k in known if "-" in k for n in range(1, k.count("-") + 1)}
     for d in ("README.md", "CONTRIBUTING.md", "docs/MANUAL.md", "docs/GLOSSARY.md", "docs/PROMISES.md", "docs/DECISIONS.md"):

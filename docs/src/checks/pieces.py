@@ -1,7 +1,7 @@
 #!/usr/bin/env python3
 """pieces.py PROGRAM: PROGRAM prints the stored listing of each sample job also where the job comes in pieces.
 
-No contract speaks of what a program reads, so this is a test alone. Each job of jobs/ goes through a pipe: one byte
+No contract says that a program reads to the end of its input, so this is a test alone. Each job of jobs/ goes through a pipe: one byte
 at a time; cut in the middle of each table, as the pairs of its header have it; and with a pause before its first byte
 and another in its middle. A piece is written only when the pipe is empty, so that no read can take two.
 """

@@ -8,7 +8,7 @@ use Rattle.c_interface.proofs.pack_answer.Tie as tie
 
 returns : tie.Need-returns
 unfolding packed_answer
-returns c = let n = c.before.numbers_of-n.ensures in c.pack.ensures ∙ rw (n.0, n.1, n.2)
+returns c = let n = c.before.from-n.ensures in c.pack.ensures ∙ rw (n.0, n.1, n.2)
 
 pub pack_answer_spec : {M : Type 1} → statement M
 pack_answer_spec = tie.close (tie.spec (λ c κs. search rules) (λ c κs. search rules) returns)

@@ -26,7 +26,7 @@ returns c =
     let ended : tie.After-ends_from_k = c.before.before in
     let found = headed ended in
     let ks = kept found in
-    let ok = (start ks).requires.0.1.accepted in
+    let ok = (start ks).requires.0.0.accepted in
     let values = (start ks).args.values.now in
     let sums = ks.keep_k-sums.ensures.0 in
     let by_heads : EndsByK (start ks).args.job.now found.node_heads.new.heads ks.keep_k-sums.new.spare ended.ends_from_k.new.spare = ended.ends_from_k.ensures.0 in
@@ -39,7 +39,7 @@ returns c =
 node-heads-requires : tie.Need-node_heads-requires
 node-heads-requires c κs =
     let pre = (start c.before.before.before.before).requires in
-    (pre.0.0, pre.0.1.accepted, pre.1.0, pre.1.1, pre.1.2)
+    (pre.0.0.accepted, pre.1.0, pre.1.1, pre.1.2)
 
 pub write_ends_spec : {M : Type 1} → statement M
 write_ends_spec =

@@ -14,4 +14,4 @@ float_from_bits-b g c =
     subst (λ (t : Bool). T (not t)) (sym (nan_bits_above binary64 c.args.b ∙ le-ltb _ _ c.if-b-gt9218868437227405312.false)) tt
 
 pub float_to_bits-r : goal.float_to_bits-r
-float_to_bits-r g c = root_number _ _ (c.root-answer.ensures.root _ (ap paper_root c.in-Value.is))
+float_to_bits-r g c = root_number _ _ (c.root.ensures.root _ (ap paper_root c.in-Some.is))

@@ -1,0 +1,17 @@
+-- After i sections, where all of them are counted as clear and both sums are finite, none has a fault: each turn looks at two more, by the CP carried to
+-- them. Assumes nothing.
+use Rattle.std.proofs.Common.{◌≡◌, ◌+◌, ◌-◌, ◌≤◌}
+use Rattle.inner_sections.specs.InnerSections.{two_cp_at, sound_inner}
+use Rattle.inner_sections.specs.CutPipes.{along, section_count}
+use Rattle.inner_check.proofs.QuickLook.{Clearing}
+use Rattle.inner_check.proofs.FlooredPipe.quick.Given as goal
+
+abbrev pub invariant-loop-i : goal.invariant-loop-i
+invariant-loop-i l =
+    let pipe = l.self.cut in
+    Clearing (sound_inner l.self.floors.now (along pipe) pipe.s) l.i (l.odd + l.even) l.odd_sum l.even_sum
+    × (l.cp ≡ two_cp_at (along pipe) pipe.s l.i)
+    × (l.i + 3 ≤ section_count pipe)
+
+abbrev pub decreases-loop-i : goal.decreases-loop-i
+decreases-loop-i l = section_count l.self.cut - l.i
