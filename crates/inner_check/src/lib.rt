@@ -105,7 +105,8 @@ impl FlooredPipe<'_> {
     // faults counted, so that the loop has no branch.
     fn exact_faults(&self) -> u64
         requires { 3 ≤ section_count self.now.cut }
-        ensures { (result ≤ section_count self.now.cut) × (eqb result 0 ≡ all_below (inner.sound_inner self.now.floors.now
+        ensures { (result ≤ section_count self.now.cut)
+            × (eqb result 0 ≡ all_below (inner.sound_inner self.now.floors.now
             (along self.now.cut) self.now.cut.s)
             (section_count self.now.cut - 2)) }
     {
@@ -130,7 +131,8 @@ impl FlooredPipe<'_> {
     // 0 exactly where no inner section has a fault after the step. Where the quick look is not sure, the exact
     // count decides.
     pub fn faults(&self) -> u64
-        ensures { (result ≤ section_count self.now.cut) × (eqb result 0 ≡ all_below (inner.sound_inner self.now.floors.now
+        ensures { (result ≤ section_count self.now.cut)
+            × (eqb result 0 ≡ all_below (inner.sound_inner self.now.floors.now
             (along self.now.cut) self.now.cut.s)
             (section_count self.now.cut - 2)) }
     {
