@@ -9,7 +9,7 @@ ghost use Rattle.job.specs.Questions.{Accepted};
 ghost use Rattle.job.specs.QuestionParts.{NodesRight, numbers_finite};
 ghost use Rattle.chain.specs.Chain.{pipe_fits, all_zero, node_fits, is_chain};
 
-use job::nodes::{NodeKind, UnknownKind, kind};
+use job::nodes::{NodeKind, UnknownKind, node_kind};
 
 // Whether the `count` entries from a place on are all zero, of either sign.
 fn all_zero(schedules: &[u8], place: usize, count: usize) -> bool
@@ -56,7 +56,7 @@ fn node_fits(
       schedule = entries_from schedules.now place count;
     } }
 {
-    match kind(nodes, node) {
+    match node_kind(nodes, node) {
         Ok(NodeKind::Junction) => node != 0 && node != last && all_zero(schedules, place, count),
         Ok(NodeKind::Reservoir) => node == 0,
         Ok(NodeKind::Valve) => (node != 0) & (node == last),

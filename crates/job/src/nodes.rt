@@ -36,8 +36,16 @@ impl TryFrom<u8> for NodeKind {
     }
 }
 
+// The number of a node's kind, whether or not it stands for one.
+pub fn kind(nodes: &[u8], node: usize) -> usize
+    requires { node < node_count nodes.now }
+    ensures { (result ≡ kind_number nodes.now node) × (result < 256) }
+{
+    usize::from(nodes[node * 26])
+}
+
 // A node's kind, by its number.
-pub fn kind(nodes: &[u8], node: usize) -> Result<NodeKind, UnknownKind>
+pub fn node_kind(nodes: &[u8], node: usize) -> Result<NodeKind, UnknownKind>
     requires { node < node_count nodes.now }
     ensures { Names (kind_number nodes.now node) result }
 {
@@ -52,7 +60,7 @@ pub fn node_with(nodes: &[u8], node: usize, v: f64) -> Node
     ensures { result ≡ with_value (kind_in nodes.now node) v }
 {
     let at = node * 26;
-    match kind(nodes, node) {
+    match node_kind(nodes, node) {
         Ok(NodeKind::Junction) => Node::Junction(v),
         Ok(NodeKind::Reservoir) => Node::Reservoir(v),
         Ok(NodeKind::Valve) => Node::Valve(

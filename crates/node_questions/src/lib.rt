@@ -11,7 +11,7 @@ ghost use Rattle.job.specs.Questions.{figures_fit_kind, figure_fits, figures_fit
 ghost use Rattle.job.specs.Questions.{ends_at, has_end, nodes_met, pair_questions, node_questions, first_no};
 ghost use Rattle.job.specs.Refusals.{no_of};
 
-use job::nodes::{NodeKind, UnknownKind, kind};
+use job::nodes::{NodeKind, UnknownKind, node_kind};
 use job::questions::{Question, ask};
 use job::schedules::{count_byte, long_count};
 
@@ -23,7 +23,7 @@ fn kind_fits(nodes: &[u8], counts: &[u8], node: usize) -> bool
     requires { node < node_count nodes.now }
     ensures { result ≡ kind_fits nodes.now counts.now node }
 {
-    kind(nodes, node).is_ok() & ((counts.len() != 0) | (1 <= count_byte(nodes, node)))
+    node_kind(nodes, node).is_ok() & ((counts.len() != 0) | (1 <= count_byte(nodes, node)))
 }
 
 // 10
@@ -118,7 +118,7 @@ fn figures_fit_kind(nodes: &[u8], node: usize) -> bool
     requires { (node < node_count nodes.now) × (all_finite nodes.now node ≡ true) }
     ensures { result ≡ figures_fit_kind nodes.now node }
 {
-    match kind(nodes, node) {
+    match node_kind(nodes, node) {
         Ok(NodeKind::Valve) => valve_fits(nodes, node),
         Ok(NodeKind::Pump) => pump_fits(nodes, node),
         Ok(NodeKind::Junction | NodeKind::Reservoir) | Err(UnknownKind) => has_no_figures(

@@ -6,7 +6,7 @@ ghost use Rattle.job.specs.Format.{trip_count, trip_in};
 ghost use Rattle.job.specs.Questions.{finite_not_below_zero, is_pump, first_of_node};
 ghost use Rattle.job.specs.Questions.{rundown_fits, trip_fits, trips_fit};
 
-use job::nodes::{NodeKind, UnknownKind, kind};
+use job::nodes::{NodeKind, UnknownKind, node_kind};
 use job::trips::node_of;
 
 // Is node y there, and a pump?
@@ -17,7 +17,7 @@ fn is_pump(nodes: &[u8], y: usize) -> bool
     if nodes.len() / 26 <= y {
         return false;
     }
-    match kind(nodes, y) {
+    match node_kind(nodes, y) {
         Ok(NodeKind::Pump) => true,
         Ok(NodeKind::Junction | NodeKind::Reservoir | NodeKind::Valve) => false,
         Err(UnknownKind) => false,

@@ -12,7 +12,7 @@ ghost use Rattle.recurrence.specs.Scan.{finite_drive};
 ghost use Rattle.node_sums.specs.FromRows.{OverNodes};
 ghost use Rattle.node_values.specs.Pairs.{pair_in, value_from, PairsStored};
 
-use job::nodes::{NodeKind, UnknownKind, kind};
+use job::nodes::{NodeKind, UnknownKind, node_kind};
 
 // The number of nodes.
 pub fn node_count(job: &[u8]) -> usize
@@ -87,7 +87,7 @@ fn pair_of(nodes: &[u8], node: usize, v: f64, q: f64) -> Pair
     ensures { (result.speed ≡ (drive_of (kind_in nodes.now node) v q).speed)
         × (result.inflow ≡ (drive_of (kind_in nodes.now node) v q).inflow) }
 {
-    match kind(nodes, node) {
+    match node_kind(nodes, node) {
         Ok(NodeKind::Pump) | Err(UnknownKind) => Pair {
             speed: v,
             inflow: q,

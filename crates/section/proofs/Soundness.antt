@@ -82,8 +82,11 @@ module _ (v : ℕ → Fault) {s : ℕ} (clear : first_below earlier none v s ≡
   unfolding found_fault
   none_more e = first_more earlier none v skip clear (sym e)
 
+  pub stop : {f : Fault} → f ≡ v s → {n : ℕ} → s < n → ((b : Fault) → earlier f b ≡ f) → f ≡ first_below earlier none v n
+  stop is {n} l last = is ∙ sym (first_stop earlier none v skip s n l (λ b. rw (← is) (last b)) clear)
+
   pub none_stop : (e : Code.Fault) → found_fault (Err e) ≡ v s → {n : ℕ} → s < n → found_fault (Err e) ≡ first_below earlier none v n
-  none_stop e is {n} l = is ∙ sym (first_stop earlier none v skip s n l (λ b. rw (← is) (stays e b)) clear)
+  none_stop e is l = stop is l (stays e)
 
 clear_to : (v : ℕ → Fault) (n : ℕ) → ((s : ℕ) → s < n → v s ≡ none) → first_below earlier none v n ≡ none
 unfolding first_below earlier

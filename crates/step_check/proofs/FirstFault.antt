@@ -40,20 +40,24 @@ first_join v a (suc n) = rw (add-suc a n, first_join v a n) (earlier_assoc (firs
 
 -- no fault so far: what the n sections from a on show
 module _ (v : ℕ → Fault) (a n : ℕ) (clear : first_below earlier none v a ≡ none) where
-  after : {f : Fault} → f ≡ first_below earlier none (λ i. v (a + i)) n → first_below earlier none v (a + n) ≡ f
+  pub after : {f : Fault} → f ≡ first_below earlier none (λ i. v (a + i)) n → first_below earlier none v (a + n) ≡ f
   unfolding earlier
   after piece = first_join v a n ∙ rw (clear, piece)
+
+  -- what no fault comes before is that of all sections
+  pub found : {f : Fault} → f ≡ first_below earlier none (λ i. v (a + i)) n → (m : ℕ) → a + n ≤ m → ((b : Fault) → earlier f b ≡ f)
+      → f ≡ first_below earlier none v m
+  found piece m h last =
+      let all : a + n + (m - (a + n)) ≡ m = omega arith in
+      sym (ap (first_below earlier none v) (sym all) ∙ first_join v (a + n) (m - (a + n)) ∙ rw (after piece) (last _))
 
   pub first_after : {x : ⊤} → found_fault (Ok x) ≡ first_below earlier none (λ i. v (a + i)) n → first_below earlier none v (a + n) ≡ none
   unfolding found_fault
   first_after piece = after piece
 
-  -- a fault is that of all sections
   pub first_found : (e : Code.Fault) → found_fault (Err e) ≡ first_below earlier none (λ i. v (a + i)) n → {m : ℕ} → a + n ≤ m
       → found_fault (Err e) ≡ first_below earlier none v m
-  first_found e piece {m} h =
-      let all : a + n + (m - (a + n)) ≡ m = omega arith in
-      sym (ap (first_below earlier none v) (sym all) ∙ first_join v (a + n) (m - (a + n)) ∙ rw (after piece) (stays e _))
+  first_found e piece {m} h = found piece m h (stays e)
 
 -- what a section of a pipe whose ends stand in the spare shows, by what the code has of it
 pub fault_by_spare_lem :

@@ -11,7 +11,7 @@ ghost use Rattle.job.specs.Refusals.{no_of};
 ghost use Rattle.job.specs.QuestionParts.{numbers_finite, each_finite, none_below_zero};
 ghost use Rattle.job.specs.QuestionParts.{sections_finite, none_below_floor, from0_to1};
 
-use job::nodes::{NodeKind, UnknownKind, kind};
+use job::nodes::{NodeKind, UnknownKind, node_kind};
 use job::questions::{Question, ask};
 use job::schedules::schedule_count;
 
@@ -118,7 +118,7 @@ fn schedule_fits(nodes: &[u8], schedules: &[u8], node: usize, place: usize, coun
     if not_finite(schedules, place, count) != 0 {
         return false;
     }
-    match kind(nodes, node) {
+    match node_kind(nodes, node) {
         Ok(NodeKind::Junction | NodeKind::Reservoir) => true,
         Ok(NodeKind::Valve | NodeKind::Pump) | Err(UnknownKind) => {
             out_of_range(schedules, place, count) == 0

@@ -14,8 +14,8 @@
  *   the thread that asks.
  * - Floating-point exceptions are not trapped. The calls raise their flags; a trap would end the program.
  * - The thread that calls has VINTUQAY_STACK_BYTES of stack left. No call takes other memory. Measured, in
- *   KB: vintuqay_run_on 4.7, vintuqay_set_valve 1.9, vintuqay_root 1.7, vintuqay_start 1.0, vintuqay_read
- *   0.2, vintuqay_line 0.1; some 3 more for the first of vintuqay_run_on and vintuqay_start where memcpy
+ *   KB: vintuqay_run_on 3.1, vintuqay_start 1.0, vintuqay_set_valve 0.4, vintuqay_read 0.3, vintuqay_root
+ *   0.1, vintuqay_line 0.1; some 3 more for the first of vintuqay_run_on and vintuqay_start where memcpy
  *   or memset is looked up late. The program surgelist runs within 100.
  *
  * Calls on different slices may run in several threads at the same time: no call writes anything but

@@ -1,8 +1,8 @@
 #!/usr/bin/env python3
 """wrong_programs.py: each wrong `surgelist` of wrong-programs/ is proved, and pieces.py refuses what it prints.
 
-No contract speaks of what a program reads, so the prover takes such a program: only a test can tell it from ours. This
-shows that it does. Run after `rt ci` from anywhere: the copies take what it left in the crates' folders.
+No contract says that a program reads its input to the end, so the prover takes such a program: only a test can tell it
+from ours. This shows that it does. Run after `rt ci` from anywhere: the copies take what it left in the crates' folders.
 """
 import pathlib
 import subprocess

@@ -15,7 +15,7 @@ one_step-requires-clause-ready c =
 pub returns-in_err-one_step : goal.returns-in_err-one_step
 returns-in_err-one_step c =
     let back : c.from_residual.result ≡ Err c.in_err-one_step.field-0.0 = search rules in
-    rw back (way_stop _ _ _ c.loop-i.invariant.0 (rw c.in_err-one_step.was at c.one_step.ensures) c.loop-i-test.true)
+    rw back (way_stop _ _ _ c.loop-i.invariant.0 (rw c.in_err-one_step.was at c.one_step.ensures) (omega arith))
 
 pub loop-i-preserved : goal.loop-i-preserved
 loop-i-preserved c =
