@@ -30,7 +30,10 @@ pub fn clear_row(n: usize, dst: &mut [f64])
     requires { n ≤ length dst.old }
     ensures { dst.new ≡ fill (λ (s : ℕ). zero64) dst.old 0 n }
 {
-    dst[..n].fill(0.0);
+    // Not by `fill`: what refuses a part that begins later would be the part, and not its first entry.
+    for at in 0..n {
+        dst[at] = 0.0;
+    }
 }
 
 // ---- one section in the rows

@@ -1,6 +1,10 @@
--- `fill` leaves one value in each entry of the part that is lent to it.
-use Rattle.loops.proofs.Fill.{filled_same}
+use mathlib.Core.Path.{refl}
+use native.Mathlib.Omega.{arith}
+use Rattle.loops.proofs.Fill.{fill_none, fill_step}
 use Rattle.section.proofs.clear_row.Goals as goal
 
-pub returns : goal.returns
-returns c = rw (c.fill.ensures.after (λ y e. e)) (filled_same _ c.args.dst.now c.args.n c.requires)
+pub loop-at-init : goal.loop-at-init
+loop-at-init c = fill_none _ _ _
+
+pub loop-at-preserved : goal.loop-at-preserved
+loop-at-preserved c = fill_step _ _ _ c.loop-at.invariant (omega arith) refl
